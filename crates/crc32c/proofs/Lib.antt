@@ -1,0 +1,4 @@
+mod Division
+mod Entries
+mod Register
+mod Worked

@@ -1,0 +1,3 @@
+pub mod Crc
+pub mod Examples
+pub mod Remainder

@@ -1,0 +1,4 @@
+pub mod Faults
+pub mod Sector
+pub mod Rules
+pub mod Leaves

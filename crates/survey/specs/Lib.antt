@@ -1,0 +1,5 @@
+pub mod Conditions
+pub mod Runs
+pub mod Surveys
+pub mod Verdicts
+pub mod Images

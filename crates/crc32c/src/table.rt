@@ -1,4 +1,6 @@
-//! Entry i: what i becomes when its eight bits are shifted out of the register.
+//! The table by which a byte is taken at once.
+
+/// Entry i: what i becomes when its eight bits are shifted out of the register.
 #[rattlefmt::skip]
 pub const TABLE: [u32; 256] = [
     0x00000000, 0xF26B8303, 0xE13B70F7, 0x1350F3F4, 0xC79A971F, 0x35F1141C, 0x26A1E7E8, 0xD4CA64EB,

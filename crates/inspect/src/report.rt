@@ -21,8 +21,8 @@ fn sentence(verdict: Verdict) -> &'static str {
     }
 }
 
-/// What is wrong with a file that is no card image.
-pub fn complaint(error: ImageError) -> &'static str {
+// What is wrong with a file that is no card image.
+pub(crate) fn complaint(error: ImageError) -> &'static str {
     match error {
         ImageError::TooLong =>
             "a card image has at most 1,024 rows of 64 bytes, and this file is longer",

@@ -1,3 +1,5 @@
+-- One byte more is one more step, and the loop ends once every byte has come.
+-- Assumes nothing.
 use Rattle.crc32c.proofs.after.Needs as need
 use Rattle.crc32c.proofs.Register.{fed-push, fed-all}
 use Rattle.crc32c.specs.Crc.{fed}

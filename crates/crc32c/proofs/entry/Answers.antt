@@ -1,3 +1,5 @@
+-- The whole table is compared with its rule at once, and the rule is read at the entry for the low byte.
+-- Assumes nothing.
 use Rattle.crc32c.proofs.Entries.{at-place, entries}
 use Rattle.crc32c.proofs.Register.{by-table}
 use Rattle.crc32c.proofs.entry.Needs as need

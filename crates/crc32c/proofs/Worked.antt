@@ -1,6 +1,6 @@
 -- The worked examples, by computation.
 -- Assumes nothing.
-use Rattle.crc32c.specs.Crc.{shifted, shiftedBy, byteIn, fed, crc}
+use Rattle.crc32c.specs.Crc.{shifted, shiftedBy, byteIn, fed}
 use Rattle.crc32c.specs.Examples.{WorkedExamples}
 use mathlib.Core.Path.{refl}
 

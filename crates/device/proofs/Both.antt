@@ -1,19 +1,19 @@
 -- Two writes and a flush, by the call at which they end.
 -- Assumes nothing.
-use mathlib.Core.Path.{_≡_, refl, sym, subst, _∙_}
-use mathlib.Core.Logic.{_⊎_, inl, inr}
+use mathlib.Core.Path.{_≡_, sym, subst, _∙_}
+use mathlib.Core.Logic.{inl, inr}
 use mathlib.Core.List.{List}
-use mathlib.Core.Bool.{Bool, true, false, not}
-use Prim.Native.Nat.{ℕ, _<_, _≤_}
+use mathlib.Core.Bool.{true, not}
+use Prim.Native.Nat.{ℕ, _<_}
 use native.Mathlib.Omega.{arith}
 use lib.Dec.{eqb}
 use Rattle.std.proofs.shelf.Tests.{cases-bool, cases-lt, both-ways}
 use Rattle.device.specs.Faults.{Answer, returned}
-use Rattle.device.specs.Sector.{Content, Image, Possible, Found}
-use Rattle.device.specs.Rules.{Meaning, NoneAdded, WriteCall, FlushCall, StaysOff}
+use Rattle.device.specs.Sector.{Content, Image, Found}
+use Rattle.device.specs.Rules.{Meaning, WriteCall, FlushCall, StaysOff}
 use Rattle.device.specs.Leaves.{MaybeWritten, WritesBoth}
-use Rattle.device.proofs.Found.{found-before, found-flushed, unwritten, maybe-map}
-use Rattle.device.proofs.Calls.{accepted-below, write-answers, write-leaves, flush-adds-none}
+use Rattle.device.proofs.Found.{found-before, unwritten, maybe-map}
+use Rattle.device.proofs.Calls.{accepted-below, write-leaves, flush-adds-none}
 
 -- an accepted call was made on a device that was on, and is
 accepted-on : (r : Answer) (m m′ : Meaning) → StaysOff r m m′ → returned r ≡ 0 → m .on ≡ true

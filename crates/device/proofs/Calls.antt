@@ -3,18 +3,18 @@
 use mathlib.Core.Path.{_≡_, ap, sym, subst, _∙_}
 use mathlib.Core.Logic.{_⊎_, inl, inr}
 use mathlib.Core.List.{List}
-use mathlib.Core.Bool.{Bool, true, false}
-use Prim.Native.Nat.{ℕ, _<_, _≤_}
+use mathlib.Core.Bool.{true}
+use Prim.Native.Nat.{ℕ, _<_}
 use native.Mathlib.Omega.{arith}
-use Rattle.std.specs.declared.result.Result.the-variants.{Ok, Err}
+use Rattle.std.specs.declared.result.Result.the-variants.{Err}
 use Rattle.std.proofs.shelf.Tests.{cases-lt}
 use Rattle.device.specs.declared.fault.Fault.the-variants.{Off, NoSector, Torn}
 use Rattle.device.specs.declared.fault.Fault.{Fault}
 use Rattle.device.specs.Faults.{Answer, returned, number}
-use Rattle.device.specs.Sector.{Content, Image, Possible, Found}
-use Rattle.device.specs.Rules.{Meaning, NoneAdded, Unchanged, Gains, Settled, Puts, WriteCall, FlushCall, Numbered}
-use Rattle.device.specs.Leaves.{MaybeWritten, WritesBoth}
-use Rattle.device.proofs.Found.{found-before, found-flushed, found-written, unwritten, maybe-map}
+use Rattle.device.specs.Sector.{Content, Image, Found}
+use Rattle.device.specs.Rules.{Meaning, NoneAdded, Unchanged, Gains, WriteCall, FlushCall, Numbered}
+use Rattle.device.specs.Leaves.{MaybeWritten}
+use Rattle.device.proofs.Found.{found-written}
 
 -- what is accepted was below the count
 pub accepted-below : (s : ℕ) (r : Answer) (m : Meaning) → Numbered s r m → returned r ≡ 0 → s < m .count

@@ -1,15 +1,15 @@
 -- The found images after a call, by the images that could be found before it.
 -- Assumes nothing.
-use mathlib.Core.Path.{_≡_, refl, sym, subst, ap}
-use mathlib.Core.Bool.{cond, true, false}
-use mathlib.Core.Logic.{_⊎_, inl, inr}
+use mathlib.Core.Path.{_≡_, refl, sym, subst}
+use mathlib.Core.Bool.{cond}
+use mathlib.Core.Logic.{inl, inr}
 use mathlib.Core.List.{List}
 use Prim.Native.Nat.{ℕ}
 use lib.Dec.{eqb}
 use Rattle.std.proofs.shelf.Tests.{cases-eq, eq-eqb, ne-eqb}
 use Rattle.device.specs.Sector.{Content, Image, Possible, Found}
 use Rattle.device.specs.Rules.{Meaning, NoneAdded, Unchanged, Gains, Settled}
-use Rattle.device.specs.Leaves.{SameBut, MaybeWritten}
+use Rattle.device.specs.Leaves.{MaybeWritten}
 
 -- where no possible content is added, nothing else can be found
 pub found-before : {p q : Possible} {σ : Image} → NoneAdded p q → Found q σ → Found p σ

@@ -5,7 +5,7 @@ use mathlib.Core.Logic.{_⊎_}
 use mathlib.Core.List.{List}
 use Prim.Native.Nat.{ℕ, _<_, _≤_}
 use Rattle.device.specs.Faults.{Answer, returned}
-use Rattle.device.specs.Sector.{Content, payload, torn, Image, Found}
+use Rattle.device.specs.Sector.{payload, torn, Image, Found}
 use Rattle.device.specs.Rules.{Meaning, CountStays, StaysOff, TellsPower, Unchanged, Puts, Settled}
 
 -- σ is τ, but for sector s

@@ -1,7 +1,5 @@
 //! inspect IMAGE: tells what is on a card, sector by sector, and gives a verdict.
 mod report;
-#[cfg(test)]
-mod tests;
 
 use report::Report;
 use report::ReportDisplay;

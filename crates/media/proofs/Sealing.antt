@@ -1,25 +1,23 @@
 -- Rows: when one is sound, and what a write to one leaves in the memory.
 -- Assumes nothing.
 use mathlib.Core.Path.{_≡_, refl, sym, ap, subst, _∙_}
-use mathlib.Core.Bool.{Bool, true, false, cond, _&&_}
+use mathlib.Core.Bool.{Bool, true, false, cond}
 use mathlib.Core.List.{List, [], _∷_, _++_}
 use mathlib.Core.Logic.{_⊎_, inl, inr}
 use Prim.Native.Nat.{ℕ, zero, suc, _+_, _-_, _*_, _<_, _≤_, min}
 use native.Mathlib.Omega.{arith}
-use borrow.Author.Needs.{needs}
 use borrow.Rule.Slice.PartMut.{putMid}
 use lib.Dec.{ltb}
 use lib.ListN.{length, getD, take, drop}
 use Rattle.std.specs.Orderings.{Decides}
-use Rattle.std.specs.shelf.Text.{sameBytes}
 use Rattle.std.specs.shelf.Lists.{paste}
-use Rattle.std.proofs.shelf.Tests.{lt-ltb, and-parts, and-from, cases-bool, cases-order, cond-true, cond-false, both-ways}
-use Rattle.std.proofs.shelf.Lists.{length-take, length-drop, length-append, take-append-drop, take-all, take-at, drop-at, append-cancel-left, same-lists, places, getD-take, getD-drop, getD-append-left, getD-append-right}
+use Rattle.std.proofs.shelf.Tests.{lt-ltb, and-parts, and-from, cases-order, cond-true, cond-false}
+use Rattle.std.proofs.shelf.Lists.{length-take, length-drop, length-append, take-append-drop, take-all, take-at, drop-at, append-cancel-left, same-lists, getD-take, getD-drop, getD-append-left, getD-append-right}
 use Rattle.std.proofs.shelf.Parts.{putMid-paste}
 use Rattle.std.proofs.shelf.Edits.{paste-paste, paste-all}
 use Rattle.std.proofs.shelf.Equals.{sameBytes-decides}
 use Rattle.crc32c.specs.Crc.{crc}
-use Rattle.device.specs.Sector.{Content, payload, torn, IsPayload}
+use Rattle.device.specs.Sector.{payload, torn, IsPayload}
 use Rattle.device.specs.Rules.{Puts}
 use Rattle.media.specs.Rows.{wordBytes, rowFor, rowIn, allBytes, sound, held, withRow}
 

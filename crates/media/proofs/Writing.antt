@@ -1,17 +1,17 @@
 -- A write to a row image keeps the rules of a device.
 -- Assumes nothing.
 use mathlib.Core.Path.{_≡_, refl, sym, ap, subst, _∙_}
-use mathlib.Core.Bool.{true, false}
+use mathlib.Core.Bool.{true}
 use mathlib.Core.List.{List}
-use mathlib.Core.Logic.{_⊎_, inl, inr}
+use mathlib.Core.Logic.{inl, inr}
 use Prim.Native.Nat.{ℕ, _+_, _*_, _/_, _<_, _≤_, min}
 use native.Mathlib.Omega.{arith}
 use lib.ListN.{length}
 use Rattle.std.specs.declared.result.Result.the-variants.{Ok}
-use Rattle.std.proofs.shelf.Tests.{cases-eq, both-ways}
+use Rattle.std.proofs.shelf.Tests.{both-ways}
 use Rattle.device.specs.Sector.{Content, IsPayload}
-use Rattle.device.specs.Rules.{Meaning, WriteCall, Puts, Gains}
-use Rattle.media.specs.Rows.{rowFor, held, only, withRow, rowCount, rowsMean}
+use Rattle.device.specs.Rules.{WriteCall, Puts, Gains}
+use Rattle.media.specs.Rows.{rowFor, only, withRow, rowCount, rowsMean}
 use Rattle.media.proofs.Sealing.{puts, long-kept, rowFor-long}
 
 -- what a write puts, and no more, is what may then be found

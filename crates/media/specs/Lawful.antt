@@ -1,18 +1,18 @@
 -- A payload that a row image holds is 60 bytes.
 -- Assumes nothing.
 use mathlib.Core.Path.{_≡_, refl, sym, ap, subst, _∙_}
-use mathlib.Core.Bool.{Bool, true, false, cond, _&&_}
-use mathlib.Core.List.{List, [], _∷_, _++_}
-use Prim.Native.Nat.{ℕ, zero, suc, _+_, _*_, _<_, min}
+use mathlib.Core.Bool.{Bool, true, false, cond}
+use mathlib.Core.List.{List, [], _∷_}
+use Prim.Native.Nat.{ℕ, zero, suc, _+_, _<_}
 use native.Mathlib.Omega.{arith}
 use lib.Dec.{ltb}
-use lib.ListN.{length, getD, take, drop}
+use lib.ListN.{length, getD, take}
 use Rattle.std.specs.shelf.Text.{sameBytes}
-use Rattle.std.proofs.shelf.Tests.{ltb-true, and-parts, cases-bool}
+use Rattle.std.proofs.shelf.Tests.{ltb-true, and-parts}
 use Rattle.std.proofs.shelf.Lists.{length-take, length-append}
 use Rattle.std.proofs.shelf.Equals.{sameBytes-decides}
 use Rattle.device.specs.Sector.{Content, payload, torn, IsPayload, Lawful}
-use Rattle.media.specs.Rows.{wordBytes, rowFor, rowIn, allBytes, sound, held}
+use Rattle.media.specs.Rows.{rowFor, rowIn, allBytes, sound, held}
 
 pub bytes-below : (xs : List ℕ) → allBytes xs ≡ true → (i : ℕ) → getD xs i 0 < 256
 bytes-below [] e i = omega arith

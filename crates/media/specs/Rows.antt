@@ -8,7 +8,7 @@ use lib.Dec.{ltb}
 use lib.ListN.{length, take, drop}
 use Rattle.std.specs.shelf.Text.{sameBytes}
 use Rattle.crc32c.specs.Crc.{crc}
-use Rattle.device.specs.Sector.{Content, payload, torn, Image, Possible}
+use Rattle.device.specs.Sector.{payload, torn, Image, Possible}
 use Rattle.device.specs.Rules.{Meaning, meaning}
 
 -- a word of 32 bits as four bytes, low byte first

@@ -2,8 +2,6 @@
 mod memory;
 mod row_image;
 mod rows;
-#[cfg(test)]
-mod tests;
 
 pub use memory::MemoryError;
 pub use memory::MemoryErrorDebug;

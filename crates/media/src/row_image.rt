@@ -1,11 +1,10 @@
 //! The row image: a device over the caller's memory, 64 bytes a sector. What is written lasts at once, and it never turns off.
 ghost use mathlib.Core.Path.{_≡_, refl};
 ghost use mathlib.Core.Bool.{true, false};
-ghost use Prim.Native.Nat.{ℕ, _%_, _<_};
+ghost use Prim.Native.Nat.{_%_, _<_};
 ghost use lib.ListN.{length};
 ghost use denote.Ref.{now, name};
 ghost use Rattle.std.specs.Results.{Cases};
-ghost use Rattle.device.specs.Faults.{returned};
 ghost use Rattle.device.specs.Sector.{payload, torn};
 ghost use Rattle.device.specs.Rules.{ReadCall, WriteCall, FlushCall};
 ghost use Rattle.media.specs.Rows.{rowCount, held, only, rowsMean, rowFor, withRow};

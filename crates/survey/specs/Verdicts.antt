@@ -2,10 +2,10 @@
 -- Assumes nothing.
 use mathlib.Core.Path.{_≡_}
 use mathlib.Core.List.{List}
-use Prim.Native.Nat.{ℕ, _<_}
+use Prim.Native.Nat.{_<_}
 use lib.ListN.{length}
 use Rattle.survey.specs.declared.condition.Condition.{Condition}
-use Rattle.survey.specs.declared.condition.Condition.the-variants.{Blank, Written, Torn}
+use Rattle.survey.specs.declared.condition.Condition.the-variants.{Blank, Torn}
 use Rattle.survey.specs.declared.condition.Verdict.{Verdict}
 use Rattle.survey.specs.declared.condition.Verdict.the-variants.{NoSectors, AllTorn, SomeTorn, AllBlank, AllReadable}
 use Rattle.survey.specs.Conditions.{howMany}

@@ -3,8 +3,6 @@ mod condition;
 mod image;
 mod look;
 mod runs;
-#[cfg(test)]
-mod tests;
 mod verdicts;
 
 pub use condition::Condition;

@@ -1,8 +1,7 @@
 -- `write_both` ends at its first write, at its second, or at the flush.
 -- Assumes nothing.
-use mathlib.Core.Path.{_≡_, refl, ap, sym, _∙_}
-use native.Mathlib.Omega.{arith}
-use Rattle.std.specs.declared.result.Result.the-variants.{Ok, Err}
+use mathlib.Core.Path.{ap, sym, _∙_}
+use Rattle.std.specs.declared.result.Result.the-variants.{Err}
 use Rattle.std.proofs.shelf.Results.{err-from-errBy}
 use Rattle.device.specs.Faults.{returned}
 use Rattle.device.proofs.Calls.{err-returned}

@@ -1,8 +1,6 @@
 -- A row is copied out exactly if it is sound.
 -- Assumes nothing.
 use mathlib.Core.Path.{refl, sym, ap, _∙_}
-use mathlib.Core.List.{List}
-use Prim.Native.Nat.{ℕ}
 use lib.ListN.{take}
 use borrow.Author.Needs.{needs}
 use Rattle.device.specs.Sector.{payload}

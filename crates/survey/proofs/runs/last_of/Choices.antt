@@ -1,6 +1,6 @@
 -- The sectors that were passed are in one condition.
 -- Assumes nothing.
-use Prim.Native.Nat.{ℕ, _<_, _≤_}
+use Prim.Native.Nat.{ℕ, _≤_}
 use mathlib.Core.Path.{_≡_}
 use Rattle.survey.specs.Conditions.{at}
 use Rattle.survey.proofs.runs.last_of.Given as given

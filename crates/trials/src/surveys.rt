@@ -1,20 +1,20 @@
 //! What a survey refuses.
-use crate::Condition;
-use crate::ConditionPartialEq;
-use crate::ImageError;
-use crate::ImageErrorDebug;
-use crate::ImageErrorPartialEq;
-use crate::LONGEST;
-use crate::SECTORS;
-use crate::SurveyError;
-use crate::SurveyErrorDebug;
-use crate::SurveyErrorPartialEq;
-use crate::survey;
-use crate::survey_image;
 use media::MemoryErrorDebug;
 use media::RowImage;
 use media::RowImageDevice;
 use std::test::*;
+use survey::Condition;
+use survey::ConditionPartialEq;
+use survey::ImageError;
+use survey::ImageErrorDebug;
+use survey::ImageErrorPartialEq;
+use survey::LONGEST;
+use survey::SECTORS;
+use survey::SurveyError;
+use survey::SurveyErrorDebug;
+use survey::SurveyErrorPartialEq;
+use survey::survey;
+use survey::survey_image;
 
 const W: Condition = Condition::Written;
 

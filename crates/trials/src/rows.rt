@@ -1,12 +1,12 @@
 //! The row image on examples. The checksums were worked out bit by bit by a program that is not part of the library.
-use crate::MemoryErrorDebug;
-use crate::RowImage;
-use crate::RowImageDevice;
 use device::Device;
 use device::Fault;
 use device::FaultDebug;
 use device::FaultPartialEq;
 use device::write_both;
+use media::MemoryErrorDebug;
+use media::RowImage;
+use media::RowImageDevice;
 use std::test::*;
 
 // 0, 1, 2, ..., 59

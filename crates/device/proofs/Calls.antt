@@ -23,6 +23,14 @@ accepted-below s r m n e = elim (cases-lt s (m .count)) [
   | inr h ↦ elim (n .past h) [ inl x ↦ absurd (omega arith) | inr x ↦ absurd (omega arith) ]
 ]
 
+-- two calls that change nothing
+pub unchanged-then : (m m₁ m₂ : Meaning) → Unchanged m m₁ → Unchanged m₁ m₂ → Unchanged m m₂
+unchanged-then m m₁ m₂ u v = record {
+  current = λ s. v .current s ∙ u .current s;
+  added = λ s c h. u .added s c (v .added s c h);
+  lost = λ s c h. v .lost s c (u .lost s c h);
+}
+
 pub unchanged-gains : (s : ℕ) (b : List ℕ) (m m′ : Meaning) → Unchanged m m′ → Gains s b (m .possible) (m′ .possible)
 unchanged-gains s b m m′ u = record { here = λ c h. inl (u .added s c h); there = λ t c _ h. u .added t c h }
 

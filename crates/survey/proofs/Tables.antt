@@ -11,6 +11,7 @@ use Rattle.std.specs.declared.option.Option.the-variants.{Some}
 use Rattle.std.proofs.shelf.Tests.{cases-eq}
 use Rattle.std.proofs.shelf.Lists.{getD-set-same, getD-set-other}
 use Rattle.device.specs.Rules.{Meaning, CountStays, Unchanged}
+use Rattle.device.proofs.Calls.{unchanged-then}
 use Rattle.survey.specs.declared.condition.Condition.{Condition}
 use Rattle.survey.specs.declared.condition.Condition.the-variants.{Blank}
 use Rattle.survey.specs.Conditions.{Shows, Surveyed, at}
@@ -23,13 +24,6 @@ pub record SoFar (n : ℕ) (xs ys : List Condition) (m m′ : Meaning) : Type 0 
   pub on : m′ .on ≡ true
   pub told : Surveyed (m .current) n ys
   pub rest : SameFrom n xs ys
-
-pub unchanged-then : (m m₁ m₂ : Meaning) → Unchanged m m₁ → Unchanged m₁ m₂ → Unchanged m m₂
-unchanged-then m m₁ m₂ u v = record {
-  current = λ s. v .current s ∙ u .current s;
-  added = λ s c h. u .added s c (v .added s c h);
-  lost = λ s c h. v .lost s c (u .lost s c h);
-}
 
 -- one sector more is told
 pub one-more : (n : ℕ) (xs ys : List Condition) (m m₁ m₂ : Meaning) (k : Condition) → SoFar n xs ys m m₁ → n < length ys → Looked n (Some k) m₁ m₂ → SoFar (n + 1) xs (set ys n k) m m₂

@@ -1,4 +1,4 @@
--- The verdict on a card, by the conditions of its sectors. Exactly one fits.
+-- The verdict on a card, by the conditions of its sectors. No two fit (proofs/Single.antt).
 -- Assumes nothing.
 use mathlib.Core.Path.{_≡_}
 use mathlib.Core.List.{List}

@@ -1,15 +1,18 @@
 -- A payload that a row image holds is 60 bytes.
 -- Assumes nothing.
-use Rattle.std.specs.Prelude.{◌≡◌, ℕ, ◌+◌, Bool, true, false, cond, List, length, take, refl}
+use Rattle.std.specs.Prelude.{◌≡◌, ℕ, zero, suc, ◌+◌, ◌<◌, Bool, true, false, cond, List, [], ◌∷◌, length, take, nat_lt, slice_index, refl}
 use Rattle.std.proofs.Common.{sym, ap, subst, ◌∙◌, arith}
 use Rattle.std.specs.Str.{bytes_eq}
-use Rattle.std.proofs.lemmas.Bool.{and_parts}
+use Rattle.std.proofs.lemmas.Bool.{ltb-true, and_parts}
 use Rattle.std.proofs.lemmas.List.{length-take, length-append}
 use Rattle.std.proofs.lemmas.Slice.Eq.{bytes_eq-Decides}
 use Rattle.device.specs.Sector.{Content, payload, torn, IsPayload, Lawful}
-use Rattle.device.specs.Bytes.{all_bytes, bytes_below}
-use Rattle.device.specs.Memory.{row_in}
-use Rattle.media.specs.Rows.{row_for, sound, held}
+use Rattle.media.specs.Rows.{row_for, row_in, all_bytes, sound, held}
+
+pub bytes_below : (xs : List ℕ) → all_bytes xs ≡ true → (i : ℕ) → slice_index xs i < 256
+bytes_below [] e i = omega arith
+bytes_below (x ∷ xs) e zero = ltb-true x 256 (and_parts (nat_lt x 256) (all_bytes xs) e).0
+bytes_below (x ∷ xs) e (suc i) = bytes_below xs (and_parts (nat_lt x 256) (all_bytes xs) e).1 i
 
 row_for_length : (s : ℕ) (b : List ℕ) → length (row_for s b) ≡ length b + 4
 unfolding row_for
@@ -28,4 +31,4 @@ lawful_if false xs h = tt
 
 pub held_lawful : (m : List ℕ) (s : ℕ) (c : Content) → c ≡ held m s → Lawful c
 unfolding held
-held_lawful m s c e = subst Lawful (sym e) (lawful_if (sound s (row_in 64 m s)) (take 60 (row_in 64 m s)) (sound_payload s (row_in 64 m s)))
+held_lawful m s c e = subst Lawful (sym e) (lawful_if (sound s (row_in m s)) (take 60 (row_in m s)) (sound_payload s (row_in m s)))

@@ -1,2 +1,3 @@
+pub mod Refusals
 pub mod Rows
 pub mod Lawful

@@ -1,6 +1,8 @@
 //! Devices: the row image.
+mod memory;
 mod row_image;
 mod rows;
 
+pub use memory::MemoryError;
 pub use row_image::RowImage;
 pub use rows::ROW;

@@ -2,12 +2,12 @@
 ghost use Rattle.std.specs.Prelude.{◌≡◌, ◌%◌, ◌<◌, true, false, length, MatchResult, ◌≢◌, refl};
 ghost use Rattle.device.specs.Sector.{payload, torn};
 ghost use Rattle.device.specs.Rules.{ReadCall, WriteCall, FlushCall};
-ghost use Rattle.device.specs.Memory.{with_row, only};
-ghost use Rattle.media.specs.Rows.{row_count, held, rows_mean, row_for};
+ghost use Rattle.media.specs.Rows.{row_count, held, only, rows_mean, row_for, with_row};
 ghost use Rattle.media.specs.Lawful.{held_lawful};
 
+use crate::memory::MemoryError;
 use crate::rows::{ROW, load, store};
-use device::{Device, Fault, MemoryError, PAYLOAD};
+use device::{Device, Fault, PAYLOAD};
 
 /// A device over rows of the caller's memory.
 #[derive(Drop)]
@@ -90,7 +90,7 @@ impl<'a> Device for RowImage<'a> {
 
     fn write(&mut self, sector: u32, bytes: &[u8; PAYLOAD]) -> Result<(), Fault>
         ensures rules { WriteCall sector bytes.now result (rows_mean self.old.rows.now) (rows_mean self.new.rows.now) }
-        ensures memory { MatchResult result (λ _. self.new.rows.now ≡ with_row 64 self.old.rows.now sector (row_for sector bytes.now)) (λ _. self.new.rows.now ≡ self.old.rows.now) }
+        ensures memory { MatchResult result (λ _. self.new.rows.now ≡ with_row self.old.rows.now sector (row_for sector bytes.now)) (λ _. self.new.rows.now ≡ self.old.rows.now) }
         ensures same { self.new.rows.ghost_name ≡ self.old.rows.ghost_name }
     {
         if sector >= self.count() {

@@ -3,8 +3,7 @@ ghost use Rattle.std.specs.Prelude.{◌≡◌, ◌<◌, true, false, ◌++◌, l
 ghost use Rattle.crc32c.specs.Crc.{crc};
 ghost use Rattle.device.specs.Rules.{WriteCall};
 ghost use Rattle.device.specs.Sector.{payload, torn};
-ghost use Rattle.device.specs.Memory.{with_row};
-ghost use Rattle.media.specs.Rows.{word_bytes, row_for, row_count, rows_mean, sound, held};
+ghost use Rattle.media.specs.Rows.{word_bytes, row_for, row_count, rows_mean, sound, held, with_row};
 
 use crc32c::Crc32c;
 use device::PAYLOAD;
@@ -49,7 +48,7 @@ pub(crate) fn load(rows: &[u8], sector: u32, into: &mut [u8; PAYLOAD]) -> bool
 // Puts a payload into a sector's row, and leaves every other byte.
 pub(crate) fn store(rows: &mut [u8], sector: u32, bytes: &[u8; PAYLOAD])
     requires { sector < row_count rows.old }
-    ensures memory { rows.new ≡ with_row 64 rows.old sector (row_for sector bytes.now) }
+    ensures memory { rows.new ≡ with_row rows.old sector (row_for sector bytes.now) }
     ensures rules { WriteCall sector bytes.now (Ok tt) (rows_mean rows.old) (rows_mean rows.new) }
 {
     let at = sector as usize * ROW;

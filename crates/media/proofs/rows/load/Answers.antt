@@ -2,20 +2,19 @@
 -- Assumes nothing.
 use Rattle.std.proofs.Common.{take, sym, refl, ap, ◌∙◌, rules}
 use Rattle.device.specs.Sector.{payload}
-use Rattle.device.proofs.Lasting.{row_cut}
 use Rattle.media.specs.Rows.{sound}
-use Rattle.media.proofs.Sealing.{held_sound, held_torn}
+use Rattle.media.proofs.Sealing.{row_cut, held_sound, held_torn}
 use Rattle.media.proofs.rows.load.Goals as goal
 
 pub returns-then-not-is-sound : goal.returns-then-not-is-sound
 returns-then-not-is-sound c = record {
   copied = search rules;
-  torn = λ _. (held_torn _ _ (sym (ap (sound c.args.sector) (row_cut 64 c.args.rows.now c.args.sector)) ∙ sym c.is-sound.ensures ∙ c.if-not-is-sound.true), refl);
+  torn = λ _. (held_torn _ _ (sym (ap (sound c.args.sector) (row_cut c.args.rows.now c.args.sector)) ∙ sym c.is-sound.ensures ∙ c.if-not-is-sound.true), refl);
 }
 
 pub returns : goal.returns
 returns c = record {
-  copied = λ _. held_sound _ _ (sym (ap (sound c.args.sector) (row_cut 64 c.args.rows.now c.args.sector)) ∙ sym c.is-sound.ensures ∙ c.if-not-is-sound.false)
-      ∙ ap payload (sym (c.copy-from-slice.ensures.after ∙ ap (take 60) (row_cut 64 c.args.rows.now c.args.sector)));
+  copied = λ _. held_sound _ _ (sym (ap (sound c.args.sector) (row_cut c.args.rows.now c.args.sector)) ∙ sym c.is-sound.ensures ∙ c.if-not-is-sound.false)
+      ∙ ap payload (sym (c.copy-from-slice.ensures.after ∙ ap (take 60) (row_cut c.args.rows.now c.args.sector)));
   torn = search rules;
 }

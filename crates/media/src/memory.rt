@@ -1,0 +1,21 @@
+//! Why a device cannot be made over the caller's memory.
+ghost use Rattle.std.specs.Prelude.{◌≡◌};
+ghost use Rattle.media.specs.Refusals.{number};
+
+/// What is wrong with the memory.
+#[derive(Clone, Copy, Debug, PartialEq, Eq)]
+pub enum MemoryError {
+    /// the memory does not end where a row ends
+    NotWholeRows,
+}
+
+impl MemoryError {
+    /// The number that the refusal goes by in documents and in programs' output.
+    pub fn number(self) -> u8
+        ensures { result ≡ number self }
+    {
+        match self {
+            MemoryError::NotWholeRows => 18,
+        }
+    }
+}

@@ -1,4 +1,6 @@
 //! A device for trials: the caller's memory, and writes that wait in front of it.
+#![tactic(auto)]
+
 mod bench;
 mod rows;
 mod settle;

@@ -1,4 +1,6 @@
 //! A write-back cache over any device: it holds up to eight written sectors and passes them on when it must.
+#![tactic(auto)]
+
 ghost use Rattle.std.specs.Prelude.{◌≡◌, ◌<◌, true, ◌⊎◌, [], length};
 ghost use Rattle.std.proofs.Common.{inl};
 ghost use Rattle.device.specs.Rules.{meaning, ReadCall, WriteCall, FlushCall};

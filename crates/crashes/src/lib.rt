@@ -1,4 +1,5 @@
 //! Tests of power cuts: caches and switches over a bench, cut within every call of a script.
+#![tactic(auto)]
 
 #[cfg(test)]
 mod calls;

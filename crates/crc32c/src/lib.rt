@@ -1,5 +1,6 @@
 //! CRC-32C: the reflected polynomial 0x82F63B78, a register that starts as all ones and is complemented at the end, and
 //! the bits of each byte taken lowest first.
+#![tactic(auto)]
 
 ghost use Rattle.std.specs.Prelude.{◌≡◌, ℕ, ◌/◌, true, List, [], ◌∷◌, ◌++◌, replicate, codes, bit_xor};
 ghost use Rattle.crc32c.specs.Crc.{Stands, crc, fed, shifted_by};

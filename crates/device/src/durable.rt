@@ -12,7 +12,7 @@ pub fn write_both<D: Device>(
     second: u32,
     b: &[u8; PAYLOAD],
 ) -> Result<(), Fault>
-    ensures { WritesBoth first a.now second b.now result (meaning (sectors device.old) (power device.old) (current device.old) (possible device.old)) (meaning (sectors device.new) (power device.new) (current device.new) (possible device.new)) }
+    ensures { WritesBoth first a.now second b.now result (meaning (D.sectors device.old) (D.power device.old) (D.current device.old) (D.possible device.old)) (meaning (D.sectors device.new) (D.power device.new) (D.current device.new) (D.possible device.new)) }
 {
     device.write(first, a)?;
     device.write(second, b)?;

@@ -1,4 +1,6 @@
 //! A sector device: what every card, cache and test device promises, and what may be relied on above them.
+#![tactic(auto)]
+
 ghost use Rattle.std.specs.Prelude.{◌≡◌, ℕ, Bool, true};
 ghost use Rattle.device.specs.Sector.{Content, Image, Possible, Found, Lawful};
 ghost use Rattle.device.specs.Rules.{meaning, ReadCall, WriteCall, FlushCall};

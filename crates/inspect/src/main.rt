@@ -1,4 +1,6 @@
 //! inspect IMAGE: tells what is on a card, sector by sector, and gives a verdict.
+#![tactic(auto)]
+
 mod report;
 
 use anyhow::anyhow;

@@ -1,4 +1,6 @@
 //! Devices: the row image.
+#![tactic(auto)]
+
 mod memory;
 mod row_image;
 mod rows;

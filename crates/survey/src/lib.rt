@@ -1,4 +1,6 @@
 //! What is on a card: the condition of each sector, and a verdict.
+#![tactic(auto)]
+
 mod condition;
 mod image;
 mod look;

@@ -1,4 +1,6 @@
 //! A power switch for tests: a device over any device, which turns off within a chosen call.
+#![tactic(auto)]
+
 mod fuse;
 mod switch;
 

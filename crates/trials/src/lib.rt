@@ -1,4 +1,5 @@
 //! Tests of the devices and of what stands on them, over the crates' public functions.
+#![tactic(auto)]
 
 #[cfg(test)]
 mod rows;

@@ -18,5 +18,5 @@ loop-byte-preserved c = fed_push _ _ _ _ _ c.loop-byte.invariant c.step-register
 pub returns : goal.returns
 returns c = λ xs stands.
     let all = YieldsList-end (YieldsList-from_copied (YieldsList-from_slice c.args.bytes.now (cc)))
-    c.loop-byte.yielded _ c.loop-byte.yielded-by _ _ c.in-None.is c.next.ensures.steps in
+    c.loop-byte.yielded _ c.loop-byte.yielded_by _ _ c.in-None.is c.next.ensures.steps in
     fed_all _ _ _ xs _ _ stands c.loop-byte.invariant all.0

@@ -6,7 +6,7 @@ use Rattle.bench.proofs.rows.put_row.Goals as goal
 
 pub returns : goal.returns
 returns c =
-    let memory = stored c.args.rows.now c.args.sector c.args.bytes.now _ c.args.mark c.requires c.told-bytes c.copy-from-slice.ensures.after in
+    let memory = stored c.args.rows.now c.args.sector c.args.bytes.now _ c.args.mark c.requires c.told-bytes c.copy_from_slice.ensures.after in
     let is : IsPayload c.args.bytes.now = record { sixty = c.told-bytes; bytes = c.fits-bytes } in
     record {
       memory = memory;

@@ -18,23 +18,23 @@ returns-in-Some g c =
 pub returns : goal.returns
 returns g c =
     let none = c.in-default.ensures in
-    let room = c.in-ok-make-room.ensures.room in
+    let room = c.in_ok-make_room.ensures.room in
     let taken = joined c.args.write _ _ _ _ _ none room c.push.ensures in
     record {
       rules = λ on here. joined_rules c.args.write _ _ _ _ _ (search rules) room c.push.ensures on here;
       held = taken;
       apart = takes_distinct c.args.write _ _ taken;
-      below = λ h. elim h [ inl few ↦ c.make-room.ensures.free few | inr some ↦ absurd (some none) ];
+      below = λ h. elim h [ inl few ↦ c.make_room.ensures.free few | inr some ↦ absurd (some none) ];
     }
 
-pub returns-in-err-make-room : goal.returns-in-err-make-room
-returns-in-err-make-room g c =
-    let p = err_from_is_err_and c.from-residual.result c.from-residual.ensures.1 in
-    let was = c.in-err-make-room.was in
-    let cut = hold_cut c.args.write.sector c.args.write.bytes _ _ _ _ c.make-room.result _ _ c.make-room.ensures.room was (was ∙ ap Err (sym p.2) ∙ sym p.1) in
+pub returns-in_err-make_room : goal.returns-in_err-make_room
+returns-in_err-make_room g c =
+    let p = err_from_is_err_and c.from_residual.result c.from_residual.ensures.1 in
+    let was = c.in_err-make_room.was in
+    let cut = hold_cut c.args.write.sector c.args.write.bytes _ _ _ _ c.make_room.result _ _ c.make_room.ensures.room was (was ∙ ap Err (sym p.2) ∙ sym p.1) in
     record {
       rules = λ _ _. cut.0;
       held = cut.1;
       apart = cut.2;
-      below = λ h. elim h [ inl few ↦ c.make-room.ensures.free few | inr some ↦ absurd (some c.in-default.ensures) ];
+      below = λ h. elim h [ inl few ↦ c.make_room.ensures.free few | inr some ↦ absurd (some c.in-default.ensures) ];
     }

@@ -11,19 +11,19 @@ use Rattle.cache.proofs.Cache.make_room.Goals as goal
 pub returns : goal.returns
 returns g c = record {
   free = λ h. absurd (omega (arith, c.len.ensures));
-  room = made_room c.oldest-oldest.result _ _ _ _ c.pass-on.result
+  room = made_room c.oldest-oldest.result _ _ _ _ c.pass_on.result
       c.oldest-oldest.ensures
       (omega (arith, c.len.ensures))
       (let l = length-take c.args.self.now.held.len c.args.self.now.held.slots in omega (arith, c.args.self.now.held.few))
-      (c.drop-oldest.ensures ∙ ap (λ (h : HeldWrites). drop 1 (listed h)) c.pass-on.ensures.held)
-      c.pass-on.ensures.below c.in-ok-pass-on.was;
+      (c.drop_oldest.ensures ∙ ap (λ (h : HeldWrites). drop 1 (listed h)) c.pass_on.ensures.held)
+      c.pass_on.ensures.below c.in_ok-pass_on.was;
 }
 
-pub returns-in-err-pass-on : goal.returns-in-err-pass-on
-returns-in-err-pass-on g c =
-    let p = err_from_is_err_and c.from-residual.result c.from-residual.ensures.1 in
-    let was = c.in-err-pass-on.was in
+pub returns-in_err-pass_on : goal.returns-in_err-pass_on
+returns-in_err-pass_on g c =
+    let p = err_from_is_err_and c.from_residual.result c.from_residual.ensures.1 in
+    let was = c.in_err-pass_on.was in
     record {
       free = λ h. absurd (omega (arith, c.len.ensures));
-      room = room_cut c.oldest-oldest.result _ _ _ _ c.pass-on.result _ _ c.oldest-oldest.ensures (ap listed c.pass-on.ensures.held) c.pass-on.ensures.below was (was ∙ ap Err (sym p.2) ∙ sym p.1);
+      room = room_cut c.oldest-oldest.result _ _ _ _ c.pass_on.result _ _ c.oldest-oldest.ensures (ap listed c.pass_on.ensures.held) c.pass_on.ensures.below was (was ∙ ap Err (sym p.2) ∙ sym p.1);
     }

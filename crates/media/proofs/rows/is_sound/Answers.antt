@@ -8,5 +8,5 @@ use Rattle.media.proofs.rows.is_sound.Goals as goal
 use Rattle.std.proofs.lemmas.Bool.Decides.{Decides-eqb}
 
 pub returns : goal.returns
-returns c = sound_is c.args.sector c.args.row.now c.requires (λ i. (c.type-inv.row i).fits) c.to-le-bytes-check.result c.eq.result
-    (c.to-le-bytes-check.ensures ∙ ap word_bytes c.checksum-in.ensures) (slice_eq-Decides Decides-eqb _ _ _ c.eq.ensures)
+returns c = sound_is c.args.sector c.args.row.now c.requires (λ i. (c.type_inv.row i).fits) c.to_le_bytes-check.result c.eq.result
+    (c.to_le_bytes-check.ensures ∙ ap word_bytes c.checksum_in.ensures) (slice_eq-Decides Decides-eqb _ _ _ c.eq.ensures)

@@ -6,15 +6,15 @@ use Rattle.media.specs.Rows.{sound}
 use Rattle.media.proofs.Sealing.{row_cut, held_sound, held_torn}
 use Rattle.media.proofs.rows.load.Goals as goal
 
-pub returns-then-not-is-sound : goal.returns-then-not-is-sound
-returns-then-not-is-sound c = record {
+pub returns-then-not-is_sound : goal.returns-then-not-is_sound
+returns-then-not-is_sound c = record {
   copied = search rules;
-  torn = λ _. (held_torn _ _ (sym (ap (sound c.args.sector) (row_cut c.args.rows.now c.args.sector)) ∙ sym c.is-sound.ensures ∙ c.if-not-is-sound.true), refl);
+  torn = λ _. (held_torn _ _ (sym (ap (sound c.args.sector) (row_cut c.args.rows.now c.args.sector)) ∙ sym c.is_sound.ensures ∙ c.if-not-is_sound.true), refl);
 }
 
 pub returns : goal.returns
 returns c = record {
-  copied = λ _. held_sound _ _ (sym (ap (sound c.args.sector) (row_cut c.args.rows.now c.args.sector)) ∙ sym c.is-sound.ensures ∙ c.if-not-is-sound.false)
-      ∙ ap payload (sym (c.copy-from-slice.ensures.after ∙ ap (take 60) (row_cut c.args.rows.now c.args.sector)));
+  copied = λ _. held_sound _ _ (sym (ap (sound c.args.sector) (row_cut c.args.rows.now c.args.sector)) ∙ sym c.is_sound.ensures ∙ c.if-not-is_sound.false)
+      ∙ ap payload (sym (c.copy_from_slice.ensures.after ∙ ap (take 60) (row_cut c.args.rows.now c.args.sector)));
   torn = search rules;
 }

@@ -9,8 +9,8 @@ use Rattle.media.proofs.rows.store.Goals as goal
 pub returns : goal.returns
 unfolding row_for
 returns c =
-    let memory = stored c.args.rows.now c.args.sector c.args.bytes.now _ _ _ (room _ _ c.requires) c.told-bytes refl c.copy-from-slice.ensures.after
-    (c.copy-from-slice-2.ensures.after ∙ c.to-le-bytes-check.ensures ∙ ap word_bytes c.checksum-in.ensures) in
+    let memory = stored c.args.rows.now c.args.sector c.args.bytes.now _ _ _ (room _ _ c.requires) c.told-bytes refl c.copy_from_slice.ensures.after
+    (c.copy_from_slice-2.ensures.after ∙ c.to_le_bytes-check.ensures ∙ ap word_bytes c.checksum_in.ensures) in
     record {
       memory = memory;
       rules = written c.args.rows.now _ c.args.sector c.args.bytes.now c.requires (record { sixty = c.told-bytes; bytes = c.fits-bytes }) memory;

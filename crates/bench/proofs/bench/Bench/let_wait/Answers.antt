@@ -8,12 +8,12 @@ use Rattle.bench.proofs.bench.Bench.let_wait.Goals as goal
 
 pub returns : goal.returns
 returns c = record {
-  rules = λ is h. keeps_write _ _ _ _ _ refl c.make-room.ensures.kept (c.append.ensures.rules is (subst (λ (n : ℕ). c.args.write.sector < n) (sym c.make-room.ensures.kept.count) h));
+  rules = λ is h. keeps_write _ _ _ _ _ refl c.make_room.ensures.kept (c.append.ensures.rules is (subst (λ (n : ℕ). c.args.write.sector < n) (sym c.make_room.ensures.kept.count) h));
   waits = lets_wait c.args.write _ _ _ _ _ _ _ _ (ring_fits c.args.self.now.pending.slots.now c.args.self.now.pending.first c.args.self.now.pending.len)
-      c.make-room.ensures.same.room c.make-room.ensures.pending c.make-room.ensures.memory c.append.ensures.joined c.append.ensures.few;
+      c.make_room.ensures.same.room c.make_room.ensures.pending c.make_room.ensures.memory c.append.ensures.joined c.append.ensures.few;
   same = record {
-    rows = c.append.ensures.same.rows ∙ c.make-room.ensures.same.rows;
-    slots = c.append.ensures.same.slots ∙ c.make-room.ensures.same.slots;
-    room = c.append.ensures.same.room ∙ c.make-room.ensures.same.room;
+    rows = c.append.ensures.same.rows ∙ c.make_room.ensures.same.rows;
+    slots = c.append.ensures.same.slots ∙ c.make_room.ensures.same.slots;
+    room = c.append.ensures.same.room ∙ c.make_room.ensures.same.room;
   };
 }

@@ -14,11 +14,11 @@ loop-k-init c = (refl, c.len-k-end.ensures.count, refl, settles_none c.args.numb
 pub loop-k-preserved : goal.loop-k-preserved
 loop-k-preserved c =
     let inv = c.loop-k.invariant in (
-      c.settle-one.ensures.pending ∙ inv.0,
+      c.settle_one.ensures.pending ∙ inv.0,
       inv.1,
-      c.settle-one.ensures.same ∙ inv.2,
+      c.settle_one.ensures.same ∙ inv.2,
       settles_next c.args.numbers.now (waiting c.args.self.now.pending) c.loop-k.k _ _ _ (let e = inv.1 in omega arith) inv.3
-          (subst (λ (q : Queue PendingWrite). SettlesAt c.args.numbers.now c.loop-k.k (waiting q) c.loop-k.self.rows.now c.settle-one.new.self.rows.now) inv.0 c.settle-one.ensures.settled),
+          (subst (λ (q : Queue PendingWrite). SettlesAt c.args.numbers.now c.loop-k.k (waiting q) c.loop-k.self.rows.now c.settle_one.new.self.rows.now) inv.0 c.settle_one.ensures.settled),
     )
 
 pub returns : goal.returns

@@ -12,5 +12,5 @@ loop-i-preserved c = (omega arith, c.loop-i.invariant.1, c.loop-i.invariant.2, m
 
 pub returns : goal.returns
 returns c =
-    ap (λ (n : ℕ). take n c.loop-i.self.slots) (c.saturating-sub-self.ensures ∙ ap (λ (n : ℕ). n - 1) c.loop-i.invariant.1)
+    ap (λ (n : ℕ). take n c.loop-i.self.slots) (c.saturating_sub-self.ensures ∙ ap (λ (n : ℕ). n - 1) c.loop-i.invariant.1)
     ∙ moved_all _ c.loop-i.self.slots c.args.self.now.len c.loop-i.i (omega arith) c.loop-i-test.false c.loop-i.invariant.3

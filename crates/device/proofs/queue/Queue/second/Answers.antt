@@ -4,14 +4,14 @@ use Rattle.std.proofs.Common.{arith}
 use Rattle.device.proofs.Turned.{rest_near, rest_round}
 use Rattle.device.proofs.queue.Queue.second.Goals as goal
 
-pub returns-then-start-before-last : goal.returns-then-start-before-last
-returns-then-start-before-last g c x =
+pub returns-then-start-before_last : goal.returns-then-start-before_last
+returns-then-start-before_last g c x =
     let q = c.args.self.now in
     let e = c.start-start.ensures in
     rest_near q.slots.now q.first c.start-start.result e.first e.zero q.len x (omega arith) c.requires
 
-pub returns-else-start-before-last : goal.returns-else-start-before-last
-returns-else-start-before-last g c x =
+pub returns-else-start-before_last : goal.returns-else-start-before_last
+returns-else-start-before_last g c x =
     let q = c.args.self.now in
     let e = c.start-start.ensures in
     rest_round q.slots.now q.first c.start-start.result e.first e.zero q.len x (omega arith) (omega arith) c.requires

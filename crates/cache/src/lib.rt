@@ -45,7 +45,7 @@ impl<D: Device> Cache<D> {
     // Passes a write on to the device below; a write to a sector that this does not have is dropped.
     fn pass_on(&mut self, write: PendingWrite) -> Result<(), Fault>
         ensures held { self.new.held ≡ self.old.held }
-        ensures below { Passed write result (meaning (sectors self.old.below) (power self.old.below) (current self.old.below) (possible self.old.below)) (meaning (sectors self.new.below) (power self.new.below) (current self.new.below) (possible self.new.below)) }
+        ensures below { Passed write result (meaning (D.sectors self.old.below) (D.power self.old.below) (D.current self.old.below) (D.possible self.old.below)) (meaning (D.sectors self.new.below) (D.power self.new.below) (D.current self.new.below) (D.possible self.new.below)) }
     {
         if write.sector >= self.below.count() {
             return Ok(());
@@ -56,7 +56,7 @@ impl<D: Device> Cache<D> {
     // Makes room for one more: if as many are held as may be, the one held longest is passed on.
     fn make_room(&mut self) -> Result<(), Fault>
         ensures free { length (listed self.old.held) < 8 → self.new.below ≡ self.old.below }
-        ensures room { MakesRoom result (listed self.old.held) (listed self.new.held) (meaning (sectors self.old.below) (power self.old.below) (current self.old.below) (possible self.old.below)) (meaning (sectors self.new.below) (power self.new.below) (current self.new.below) (possible self.new.below)) }
+        ensures room { MakesRoom result (listed self.old.held) (listed self.new.held) (meaning (D.sectors self.old.below) (D.power self.old.below) (D.current self.old.below) (D.possible self.old.below)) (meaning (D.sectors self.new.below) (D.power self.new.below) (D.current self.new.below) (D.possible self.new.below)) }
     {
         if self.held.len() < HELD {
             return Ok(());
@@ -70,7 +70,7 @@ impl<D: Device> Cache<D> {
     // Passes all that is held on, the one held longest first. All is still held afterwards.
     fn pass_all_on(&mut self) -> Result<(), Fault>
         ensures held { self.new.held ≡ self.old.held }
-        ensures below { PassesAll result (listed self.old.held) (meaning (sectors self.old.below) (power self.old.below) (current self.old.below) (possible self.old.below)) (meaning (sectors self.new.below) (power self.new.below) (current self.new.below) (possible self.new.below)) }
+        ensures below { PassesAll result (listed self.old.held) (meaning (D.sectors self.old.below) (D.power self.old.below) (D.current self.old.below) (D.possible self.old.below)) (meaning (D.sectors self.new.below) (D.power self.new.below) (D.current self.new.below) (D.possible self.new.below)) }
     {
         for k in 0..self.held.len() {
             let write = self.held.at(k);
@@ -81,7 +81,7 @@ impl<D: Device> Cache<D> {
 
     // Takes a write, in the place of an earlier one to its sector or as the youngest.
     fn hold(&mut self, write: PendingWrite) -> Result<(), Fault>
-        ensures rules { power self.old.below ≡ true → write.sector < sectors self.old.below → WriteCall write.sector write.bytes result (with_waiting (listed self.old.held) (meaning (sectors self.old.below) (power self.old.below) (current self.old.below) (possible self.old.below))) (with_waiting (listed self.new.held) (meaning (sectors self.new.below) (power self.new.below) (current self.new.below) (possible self.new.below))) }
+        ensures rules { D.power self.old.below ≡ true → write.sector < D.sectors self.old.below → WriteCall write.sector write.bytes result (with_waiting (listed self.old.held) (meaning (D.sectors self.old.below) (D.power self.old.below) (D.current self.old.below) (D.possible self.old.below))) (with_waiting (listed self.new.held) (meaning (D.sectors self.new.below) (D.power self.new.below) (D.current self.new.below) (D.possible self.new.below))) }
         ensures held { HeldAfter write.sector write.bytes result (listed self.old.held) (listed self.new.held) }
         ensures apart { Distinct (listed self.old.held) → Distinct (listed self.new.held) }
         ensures below { (length (listed self.old.held) < 8) ⊎ (Absent write.sector (listed self.old.held) → ⊥) → self.new.below ≡ self.old.below }
@@ -98,14 +98,14 @@ impl<D: Device> Cache<D> {
     // Flushes the device below, and no more.
     fn flush_below(&mut self) -> Result<(), Fault>
         ensures held { self.new.held ≡ self.old.held }
-        ensures below { FlushCall result (meaning (sectors self.old.below) (power self.old.below) (current self.old.below) (possible self.old.below)) (meaning (sectors self.new.below) (power self.new.below) (current self.new.below) (possible self.new.below)) }
+        ensures below { FlushCall result (meaning (D.sectors self.old.below) (D.power self.old.below) (D.current self.old.below) (D.possible self.old.below)) (meaning (D.sectors self.new.below) (D.power self.new.below) (D.current self.new.below) (D.possible self.new.below)) }
     {
         self.below.flush()
     }
 
     // Writes all that is held back, for good, and then holds nothing.
     fn write_back(&mut self) -> Result<(), Fault>
-        ensures rules { FlushCall result (with_waiting (listed self.old.held) (meaning (sectors self.old.below) (power self.old.below) (current self.old.below) (possible self.old.below))) (with_waiting (listed self.new.held) (meaning (sectors self.new.below) (power self.new.below) (current self.new.below) (possible self.new.below))) }
+        ensures rules { FlushCall result (with_waiting (listed self.old.held) (meaning (D.sectors self.old.below) (D.power self.old.below) (D.current self.old.below) (D.possible self.old.below))) (with_waiting (listed self.new.held) (meaning (D.sectors self.new.below) (D.power self.new.below) (D.current self.new.below) (D.possible self.new.below))) }
         ensures held { HeldAfterFlush result (listed self.old.held) (listed self.new.held) }
     {
         self.pass_all_on()?;
@@ -139,7 +139,7 @@ impl<D: Device> Device for Cache<D> {
     }
 
     fn read(&mut self, sector: u32, into: &mut [u8; PAYLOAD]) -> Result<(), Fault>
-        ensures rules { ReadCall sector into.old into.new result (with_waiting (listed self.old.held) (meaning (sectors self.old.below) (power self.old.below) (current self.old.below) (possible self.old.below))) (with_waiting (listed self.new.held) (meaning (sectors self.new.below) (power self.new.below) (current self.new.below) (possible self.new.below))) }
+        ensures rules { ReadCall sector into.old into.new result (with_waiting (listed self.old.held) (meaning (D.sectors self.old.below) (D.power self.old.below) (D.current self.old.below) (D.possible self.old.below))) (with_waiting (listed self.new.held) (meaning (D.sectors self.new.below) (D.power self.new.below) (D.current self.new.below) (D.possible self.new.below))) }
         ensures held { self.new.held ≡ self.old.held }
     {
         if !self.below.is_on() {
@@ -158,7 +158,7 @@ impl<D: Device> Device for Cache<D> {
     }
 
     fn write(&mut self, sector: u32, bytes: &[u8; PAYLOAD]) -> Result<(), Fault>
-        ensures rules { WriteCall sector bytes.now result (with_waiting (listed self.old.held) (meaning (sectors self.old.below) (power self.old.below) (current self.old.below) (possible self.old.below))) (with_waiting (listed self.new.held) (meaning (sectors self.new.below) (power self.new.below) (current self.new.below) (possible self.new.below))) }
+        ensures rules { WriteCall sector bytes.now result (with_waiting (listed self.old.held) (meaning (D.sectors self.old.below) (D.power self.old.below) (D.current self.old.below) (D.possible self.old.below))) (with_waiting (listed self.new.held) (meaning (D.sectors self.new.below) (D.power self.new.below) (D.current self.new.below) (D.possible self.new.below))) }
         ensures held { HeldAfter sector bytes.now result (listed self.old.held) (listed self.new.held) }
         ensures apart { Distinct (listed self.old.held) → Distinct (listed self.new.held) }
         ensures below { (length (listed self.old.held) < 8) ⊎ (Absent sector (listed self.old.held) → ⊥) → self.new.below ≡ self.old.below }
@@ -174,7 +174,7 @@ impl<D: Device> Device for Cache<D> {
     }
 
     fn flush(&mut self) -> Result<(), Fault>
-        ensures rules { FlushCall result (with_waiting (listed self.old.held) (meaning (sectors self.old.below) (power self.old.below) (current self.old.below) (possible self.old.below))) (with_waiting (listed self.new.held) (meaning (sectors self.new.below) (power self.new.below) (current self.new.below) (possible self.new.below))) }
+        ensures rules { FlushCall result (with_waiting (listed self.old.held) (meaning (D.sectors self.old.below) (D.power self.old.below) (D.current self.old.below) (D.possible self.old.below))) (with_waiting (listed self.new.held) (meaning (D.sectors self.new.below) (D.power self.new.below) (D.current self.new.below) (D.possible self.new.below))) }
         ensures held { HeldAfterFlush result (listed self.old.held) (listed self.new.held) }
     {
         self.write_back()

@@ -1,3 +1,2 @@
-pub mod Counting
 pub mod Tables
 pub mod Single

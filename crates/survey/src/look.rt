@@ -21,7 +21,7 @@ fn is_blank(bytes: &[u8]) -> bool
 
 // The condition of one sector, or none where the device does not tell.
 fn look<D: Device>(device: &mut D, sector: u32) -> Option<Condition>
-    ensures { Looked sector result (meaning (sectors device.old) (power device.old) (current device.old) (possible device.old)) (meaning (sectors device.new) (power device.new) (current device.new) (possible device.new)) }
+    ensures { Looked sector result (meaning (D.sectors device.old) (D.power device.old) (D.current device.old) (D.possible device.old)) (meaning (D.sectors device.new) (D.power device.new) (D.current device.new) (D.possible device.new)) }
 {
     let mut bytes = [0u8; PAYLOAD];
     match device.read(sector, &mut bytes) {
@@ -39,7 +39,7 @@ fn look<D: Device>(device: &mut D, sector: u32) -> Option<Condition>
 
 /// Puts the condition of each sector into the caller's table, and tells how many sectors there are.
 pub fn survey<D: Device>(device: &mut D, table: &mut [Condition]) -> Result<usize, SurveyError>
-    ensures { Surveys table.old table.new result (meaning (sectors device.old) (power device.old) (current device.old) (possible device.old)) (meaning (sectors device.new) (power device.new) (current device.new) (possible device.new)) }
+    ensures { Surveys table.old table.new result (meaning (D.sectors device.old) (D.power device.old) (D.current device.old) (D.possible device.old)) (meaning (D.sectors device.new) (D.power device.new) (D.current device.new) (D.possible device.new)) }
 {
     let count = device.count();
     if table.len() < count as usize {

@@ -17,7 +17,7 @@ returns-in-Some g c =
 
 pub returns : goal.returns
 returns g c =
-    let none = c.in-default.ensures in
+    let none = c.in_default.ensures in
     let room = c.in_ok-make_room.ensures.room in
     let taken = joined c.args.write _ _ _ _ _ none room c.push.ensures in
     record {
@@ -36,5 +36,5 @@ returns-in_err-make_room g c =
       rules = λ _ _. cut.0;
       held = cut.1;
       apart = cut.2;
-      below = λ h. elim h [ inl few ↦ c.make_room.ensures.free few | inr some ↦ absurd (some c.in-default.ensures) ];
+      below = λ h. elim h [ inl few ↦ c.make_room.ensures.free few | inr some ↦ absurd (some c.in_default.ensures) ];
     }

@@ -28,9 +28,9 @@ returns-in-Err c =
       };
     }
 
-pub returns-in-default : goal.returns-in-default
-returns-in-default c =
-    let put = c.in-default.ensures.put in
+pub returns-in_default : goal.returns-in_default
+returns-in_default c =
+    let put = c.in_default.ensures.put in
     record {
       rules = λ is. lets_join c.args.write _ _ _ is put.0;
       joined = λ _. (put.0, refl);

@@ -26,7 +26,7 @@ loop-oldest-preserved c =
 
 pub returns : goal.returns
 returns c =
-    let taken = c.in-default.ensures in
+    let taken = c.in_default.ensures in
     let inv = c.loop-oldest.invariant in
     let all = all_flushed _ _ _ _ _ _ (ap (λ x. x.now) taken.rows) taken.taken taken.empty inv.0 inv.1 in
     record {

@@ -17,7 +17,7 @@ pub loop-k-preserved-else-write-sector : goal.loop-k-preserved-else-write-sector
 loop-k-preserved-else-write-sector c = absent_more c.args.sector (waiting c.args.self.now.pending) (c.loop-k.k - 1) c.loop-k.k c.in-Some.write (omega arith) c.in-Some.ensures c.if-write-sector.false c.loop-k.invariant
 
 pub loop-k-preserved : goal.loop-k-preserved
-loop-k-preserved c = absent_past c.args.sector (waiting c.args.self.now.pending) (c.loop-k.k - 1) c.in-default.ensures
+loop-k-preserved c = absent_past c.args.sector (waiting c.args.self.now.pending) (c.loop-k.k - 1) c.in_default.ensures
 
 pub returns : goal.returns
 returns c = absent_waiting c.args.sector (waiting c.args.self.now.pending) (subst (λ (k : ℕ). Absent c.args.sector (drop k (waiting c.args.self.now.pending))) (let z : c.loop-k.k ≡ 0 = omega arith in z) c.loop-k.invariant)

@@ -5,6 +5,7 @@ mod report;
 
 use anyhow::anyhow;
 use report::{Report, complaint};
+use std::process::ExitCode;
 use std::{env, fs, io};
 use survey::{Condition, ImageError, LONGEST, SECTORS, survey_image};
 
@@ -16,7 +17,7 @@ fn read_image(rt: &HostRuntime, path: &str) -> anyhow::Result<Vec<u8>> {
     match fs::metadata(rt, path) {
         Ok(found) => {
             if found.len() > LONGEST as u64 {
-                return Err(complaint(ImageError::TooLong).into());
+                return Err(anyhow!(complaint(ImageError::TooLong)));
             }
         }
         Err(error) => {
@@ -40,22 +41,22 @@ fn inspect(rt: &HostRuntime, path: &str) -> anyhow::Result<()> {
             println!(rt; "{report}")?;
             Ok(())
         }
-        Err(error) => Err(complaint(error).into()),
+        Err(error) => Err(anyhow!(complaint(error))),
     }
 }
 
 // Inspects the image, or says on the error stream what is wrong with it.
-fn tell(rt: &HostRuntime, path: &str) -> anyhow::Result<()> {
+fn tell(rt: &HostRuntime, path: &str) -> anyhow::Result<ExitCode> {
     match inspect(rt, path) {
-        Ok(()) => Ok(()),
+        Ok(()) => Ok(ExitCode::SUCCESS),
         Err(error) => {
             eprintln!(rt; "inspect: {path}: {error}")?;
-            Err(error)
+            Ok(ExitCode::FAILURE)
         }
     }
 }
 
-fn main(rt: HostRuntime) -> anyhow::Result<()> {
+fn main(rt: HostRuntime) -> anyhow::Result<ExitCode> {
     match env::args(&rt)?.nth(1) {
         Some(path) => tell(&rt, path.as_str()),
         None => tell(&rt, USUAL),

@@ -101,9 +101,8 @@ pub fn self_test() -> bool
     checksum(&[0; 32]) == zeros && checksum(b"123456789") == digits
 }
 
-/// `checksum` for C: `uint32_t goarfleki_crc32c(const uint8_t *bytes, size_t length)`.
-#[unsafe(no_mangle)]
-pub extern "C" fn goarfleki_crc32c(bytes: &[u8]) -> u32
+/// `checksum` under the name by which the crate `crc32c_c` gives it to C.
+pub fn goarfleki_crc32c(bytes: &[u8]) -> u32
     ensures { result ≡ crc bytes.now }
 {
     checksum(bytes)

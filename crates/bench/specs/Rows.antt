@@ -1,10 +1,10 @@
 -- The rows of the bench device: 61 bytes of memory for each sector, its payload and then a mark.
 -- Assumes nothing.
-use Rattle.std.specs.Prelude.{◌≡◌, ℕ, ◌/◌, min, Bool, true, false, cond, List, [], ◌∷◌, ◌++◌, length, take, ◌==◌, slice_index_or}
+use Rattle.std.specs.Prelude.{◌≡◌, ℕ, ◌/◌, min, Bool, true, false, cond, List, [], ◌∷◌, ◌++◌, length, take, ◌==◌, slice_index_or, refl}
 use Rattle.std.proofs.Common.{sym, subst}
 use Rattle.device.specs.Sector.{Content, torn, Image, Lawful}
 use Rattle.device.specs.Bytes.{content, content_lawful}
-use Rattle.device.specs.Rules.{Meaning, meaning}
+use Rattle.device.specs.Rules.{Meaning, meaning, Laws}
 use Rattle.device.specs.Memory.{row_in, only}
 
 -- the row that holds payload b: the mark 0 says that it can be read
@@ -42,3 +42,7 @@ lawful_if false b = tt
 pub durable_lawful : (m : List ℕ) (s : ℕ) (c : Content) → c ≡ durable m s → Lawful c
 unfolding durable row_holds
 durable_lawful m s c e = subst Lawful (sym e) (lawful_if (is_readable (row_in 61 m s)) (take 60 (row_in 61 m s)))
+
+-- the laws of a device hold of any memory
+pub rows_laws : (m : List ℕ) → Laws (rows_mean m)
+rows_laws m = record { some = λ s. (durable m s, refl); kept = λ _ s. refl; lawful = durable_lawful m }

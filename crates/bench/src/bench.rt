@@ -1,12 +1,9 @@
 //! The bench device: writes wait, at most eight, until they are made durable; it never turns off.
 ghost use Rattle.std.specs.Prelude.{◌≡◌, ◌%◌, ◌<◌, ◌≤◌, true, false, [], ◌∷◌, ◌++◌, length, IfNone, Ok, MatchOption, MatchResult, refl};
-ghost use Rattle.std.proofs.Common.{inl};
 ghost use Rattle.device.specs.Sector.{payload, torn, IsPayload};
 ghost use Rattle.device.specs.Rules.{ReadCall, WriteCall, FlushCall};
-ghost use Rattle.device.specs.Memory.{only};
-ghost use Rattle.device.specs.Queues.{waiting, places};
-ghost use Rattle.device.specs.Waiting.{NoneFor, Holds, Keeps, shown, may, room_in, kept_waiting, lawful_waiting};
-ghost use Rattle.bench.specs.Rows.{durable, row_count, durable_lawful};
+ghost use Rattle.device.specs.Waiting.{NoneFor, Holds, Keeps, room_in, laws_waiting};
+ghost use Rattle.bench.specs.Rows.{durable, row_count, rows_mean, rows_laws};
 ghost use Rattle.bench.specs.Benches.{Made, Refuses, SamePlaces, means, memory, queued, room_for};
 ghost use Rattle.bench.specs.Waits.{MakesDurable, LetsWait, WaitsAfter, stored_all, room_made};
 
@@ -157,19 +154,9 @@ impl Bench<'_> {
 }
 
 impl<'a> Device for Bench<'a> {
-    ghost sectors = { λ d. row_count d.rows.now };
+    ghost means = { means };
 
-    ghost power = { λ _. true };
-
-    ghost current = { λ d. shown (row_count d.rows.now) (waiting d.pending) (durable d.rows.now) };
-
-    ghost possible = { λ d. may (row_count d.rows.now) (waiting d.pending) (only (durable d.rows.now)) };
-
-    ghost some = { λ d s. (durable d.rows.now s, inl refl) };
-
-    ghost kept = { λ d _. kept_waiting (row_count d.rows.now) (waiting d.pending) (durable d.rows.now) (only (durable d.rows.now)) (λ s. refl) };
-
-    ghost lawful = { λ d. lawful_waiting (row_count d.rows.now) (waiting d.pending) (only (durable d.rows.now)) (durable_lawful d.rows.now) };
+    ghost laws = { λ d. laws_waiting (queued d) (rows_mean (memory d)) (rows_laws (memory d)) };
 
     fn count(&self) -> u32 {
         self.room()

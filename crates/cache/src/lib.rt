@@ -3,8 +3,8 @@
 
 ghost use Rattle.std.specs.Prelude.{◌≡◌, ◌<◌, true, ◌⊎◌, [], length};
 ghost use Rattle.std.proofs.Common.{inl};
-ghost use Rattle.device.specs.Rules.{meaning, ReadCall, WriteCall, FlushCall};
-ghost use Rattle.device.specs.Waiting.{Absent, shown, may, with_waiting, kept_waiting, lawful_waiting};
+ghost use Rattle.device.specs.Rules.{ReadCall, WriteCall, FlushCall};
+ghost use Rattle.device.specs.Waiting.{Absent, with_waiting, laws_waiting};
 ghost use Rattle.cache.specs.Held.{Distinct, Passed, MakesRoom, PassesAll, HeldAfter, HeldAfterFlush};
 ghost use Rattle.cache.specs.Listed.{listed};
 
@@ -45,7 +45,7 @@ impl<D: Device> Cache<D> {
     // Passes a write on to the device below; a write to a sector that this does not have is dropped.
     fn pass_on(&mut self, write: PendingWrite) -> Result<(), Fault>
         ensures held { self.new.held ≡ self.old.held }
-        ensures below { Passed write result (meaning (D.sectors self.old.below) (D.power self.old.below) (D.current self.old.below) (D.possible self.old.below)) (meaning (D.sectors self.new.below) (D.power self.new.below) (D.current self.new.below) (D.possible self.new.below)) }
+        ensures below { Passed write result (D.means self.old.below) (D.means self.new.below) }
     {
         if write.sector >= self.below.count() {
             return Ok(());
@@ -56,7 +56,7 @@ impl<D: Device> Cache<D> {
     // Makes room for one more: if as many are held as may be, the one held longest is passed on.
     fn make_room(&mut self) -> Result<(), Fault>
         ensures free { length (listed self.old.held) < 8 → self.new.below ≡ self.old.below }
-        ensures room { MakesRoom result (listed self.old.held) (listed self.new.held) (meaning (D.sectors self.old.below) (D.power self.old.below) (D.current self.old.below) (D.possible self.old.below)) (meaning (D.sectors self.new.below) (D.power self.new.below) (D.current self.new.below) (D.possible self.new.below)) }
+        ensures room { MakesRoom result (listed self.old.held) (listed self.new.held) (D.means self.old.below) (D.means self.new.below) }
     {
         if self.held.len() < HELD {
             return Ok(());
@@ -70,7 +70,7 @@ impl<D: Device> Cache<D> {
     // Passes all that is held on, the one held longest first. All is still held afterwards.
     fn pass_all_on(&mut self) -> Result<(), Fault>
         ensures held { self.new.held ≡ self.old.held }
-        ensures below { PassesAll result (listed self.old.held) (meaning (D.sectors self.old.below) (D.power self.old.below) (D.current self.old.below) (D.possible self.old.below)) (meaning (D.sectors self.new.below) (D.power self.new.below) (D.current self.new.below) (D.possible self.new.below)) }
+        ensures below { PassesAll result (listed self.old.held) (D.means self.old.below) (D.means self.new.below) }
     {
         for k in 0..self.held.len() {
             let write = self.held.at(k);
@@ -81,7 +81,7 @@ impl<D: Device> Cache<D> {
 
     // Takes a write, in the place of an earlier one to its sector or as the youngest.
     fn hold(&mut self, write: PendingWrite) -> Result<(), Fault>
-        ensures rules { D.power self.old.below ≡ true → write.sector < D.sectors self.old.below → WriteCall write.sector write.bytes result (with_waiting (listed self.old.held) (meaning (D.sectors self.old.below) (D.power self.old.below) (D.current self.old.below) (D.possible self.old.below))) (with_waiting (listed self.new.held) (meaning (D.sectors self.new.below) (D.power self.new.below) (D.current self.new.below) (D.possible self.new.below))) }
+        ensures rules { (D.means self.old.below).on ≡ true → write.sector < (D.means self.old.below).count → WriteCall write.sector write.bytes result (with_waiting (listed self.old.held) (D.means self.old.below)) (with_waiting (listed self.new.held) (D.means self.new.below)) }
         ensures held { HeldAfter write.sector write.bytes result (listed self.old.held) (listed self.new.held) }
         ensures apart { Distinct (listed self.old.held) → Distinct (listed self.new.held) }
         ensures below { (length (listed self.old.held) < 8) ⊎ (Absent write.sector (listed self.old.held) → ⊥) → self.new.below ≡ self.old.below }
@@ -98,14 +98,14 @@ impl<D: Device> Cache<D> {
     // Flushes the device below, and no more.
     fn flush_below(&mut self) -> Result<(), Fault>
         ensures held { self.new.held ≡ self.old.held }
-        ensures below { FlushCall result (meaning (D.sectors self.old.below) (D.power self.old.below) (D.current self.old.below) (D.possible self.old.below)) (meaning (D.sectors self.new.below) (D.power self.new.below) (D.current self.new.below) (D.possible self.new.below)) }
+        ensures below { FlushCall result (D.means self.old.below) (D.means self.new.below) }
     {
         self.below.flush()
     }
 
     // Writes all that is held back, for good, and then holds nothing.
     fn write_back(&mut self) -> Result<(), Fault>
-        ensures rules { FlushCall result (with_waiting (listed self.old.held) (meaning (D.sectors self.old.below) (D.power self.old.below) (D.current self.old.below) (D.possible self.old.below))) (with_waiting (listed self.new.held) (meaning (D.sectors self.new.below) (D.power self.new.below) (D.current self.new.below) (D.possible self.new.below))) }
+        ensures rules { FlushCall result (with_waiting (listed self.old.held) (D.means self.old.below)) (with_waiting (listed self.new.held) (D.means self.new.below)) }
         ensures held { HeldAfterFlush result (listed self.old.held) (listed self.new.held) }
     {
         self.pass_all_on()?;
@@ -116,19 +116,9 @@ impl<D: Device> Cache<D> {
 }
 
 impl<D: Device> Device for Cache<D> {
-    ghost sectors = { λ d. D.Device.sectors d.below };
+    ghost means = { λ d. with_waiting (listed d.held) (D.Device.means d.below) };
 
-    ghost power = { λ d. D.Device.power d.below };
-
-    ghost current = { λ d. shown (D.Device.sectors d.below) (listed d.held) (D.Device.current d.below) };
-
-    ghost possible = { λ d. may (D.Device.sectors d.below) (listed d.held) (D.Device.possible d.below) };
-
-    ghost some = { λ d s. ((D.Device.some d.below s).0, inl (D.Device.some d.below s).1) };
-
-    ghost kept = { λ d on. kept_waiting (D.Device.sectors d.below) (listed d.held) (D.Device.current d.below) (D.Device.possible d.below) (D.Device.kept d.below on) };
-
-    ghost lawful = { λ d. lawful_waiting (D.Device.sectors d.below) (listed d.held) (D.Device.possible d.below) (D.Device.lawful d.below) };
+    ghost laws = { λ d. laws_waiting (listed d.held) (D.Device.means d.below) (D.Device.laws d.below) };
 
     fn count(&self) -> u32 {
         self.below.count() // nothing is added
@@ -139,7 +129,7 @@ impl<D: Device> Device for Cache<D> {
     }
 
     fn read(&mut self, sector: u32, into: &mut [u8; PAYLOAD]) -> Result<(), Fault>
-        ensures rules { ReadCall sector into.old into.new result (with_waiting (listed self.old.held) (meaning (D.sectors self.old.below) (D.power self.old.below) (D.current self.old.below) (D.possible self.old.below))) (with_waiting (listed self.new.held) (meaning (D.sectors self.new.below) (D.power self.new.below) (D.current self.new.below) (D.possible self.new.below))) }
+        ensures rules { ReadCall sector into.old into.new result (with_waiting (listed self.old.held) (D.means self.old.below)) (with_waiting (listed self.new.held) (D.means self.new.below)) }
         ensures held { self.new.held ≡ self.old.held }
     {
         if !self.below.is_on() {
@@ -158,7 +148,7 @@ impl<D: Device> Device for Cache<D> {
     }
 
     fn write(&mut self, sector: u32, bytes: &[u8; PAYLOAD]) -> Result<(), Fault>
-        ensures rules { WriteCall sector bytes.now result (with_waiting (listed self.old.held) (meaning (D.sectors self.old.below) (D.power self.old.below) (D.current self.old.below) (D.possible self.old.below))) (with_waiting (listed self.new.held) (meaning (D.sectors self.new.below) (D.power self.new.below) (D.current self.new.below) (D.possible self.new.below))) }
+        ensures rules { WriteCall sector bytes.now result (with_waiting (listed self.old.held) (D.means self.old.below)) (with_waiting (listed self.new.held) (D.means self.new.below)) }
         ensures held { HeldAfter sector bytes.now result (listed self.old.held) (listed self.new.held) }
         ensures apart { Distinct (listed self.old.held) → Distinct (listed self.new.held) }
         ensures below { (length (listed self.old.held) < 8) ⊎ (Absent sector (listed self.old.held) → ⊥) → self.new.below ≡ self.old.below }
@@ -174,7 +164,7 @@ impl<D: Device> Device for Cache<D> {
     }
 
     fn flush(&mut self) -> Result<(), Fault>
-        ensures rules { FlushCall result (with_waiting (listed self.old.held) (meaning (D.sectors self.old.below) (D.power self.old.below) (D.current self.old.below) (D.possible self.old.below))) (with_waiting (listed self.new.held) (meaning (D.sectors self.new.below) (D.power self.new.below) (D.current self.new.below) (D.possible self.new.below))) }
+        ensures rules { FlushCall result (with_waiting (listed self.old.held) (D.means self.old.below)) (with_waiting (listed self.new.held) (D.means self.new.below)) }
         ensures held { HeldAfterFlush result (listed self.old.held) (listed self.new.held) }
     {
         self.write_back()

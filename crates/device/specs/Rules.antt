@@ -1,8 +1,8 @@
 -- The seven rules of a device, as relations between its meaning before a call (m) and after it (m').
 -- s is the sector asked for, b the bytes to write, r the answer. Assumes nothing.
-use Rattle.std.specs.Prelude.{◌≡◌, ℕ, ◌<◌, ◌≤◌, Bool, false, not, ◌⊎◌, List, ◌==◌, ◌≢◌}
+use Rattle.std.specs.Prelude.{◌≡◌, ℕ, ◌<◌, ◌≤◌, Bool, true, false, not, ◌⊎◌, List, ◌==◌, ◌≢◌}
 use Rattle.device.specs.Faults.{Answer, returned}
-use Rattle.device.specs.Sector.{Content, payload, torn, Image, Possible}
+use Rattle.device.specs.Sector.{Content, payload, torn, Image, Possible, Found, Lawful}
 
 -- what a device means at one moment: its count of sectors, whether it is on,
 -- what each sector holds, and what a cut may leave in each
@@ -14,6 +14,13 @@ pub record Meaning : Type 1 where
 
 abbrev pub meaning : ℕ → Bool → Image → Possible → Meaning
 meaning n o f p = record { count = n; on = o; current = f; possible = p }
+
+-- The laws of a device, of what it means at any moment. A cut leaves something in every sector; while the device is on,
+-- it may leave what is current; and a payload that it leaves is 60 bytes.
+pub record Laws (m : Meaning) : Type 0 where
+  pub some : (s : ℕ) → (c : Content) × m.possible s c
+  pub kept : m.on ≡ true → Found m.possible m.current
+  pub lawful : (s : ℕ) (c : Content) → m.possible s c → Lawful c
 
 -- no possible content is added, in any sector
 abbrev pub NoneAdded : Possible → Possible → Type 0

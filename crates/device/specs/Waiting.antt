@@ -5,7 +5,7 @@ use Rattle.std.proofs.Common.{sym, subst, inl, inr, arith}
 use Rattle.device.specs.declared.pending.PendingWrite.{PendingWrite}
 use Rattle.device.specs.Sector.{Content, payload, torn, Image, Possible, Found, Lawful}
 use Rattle.device.specs.Bytes.{content, content_lawful}
-use Rattle.device.specs.Rules.{Meaning, meaning, NoneAdded, Unchanged}
+use Rattle.device.specs.Rules.{Meaning, meaning, Laws, NoneAdded, Unchanged}
 
 -- the bytes that wait for sector s of a device of n sectors, oldest first
 unfoldable pub waiting_at : ℕ → List PendingWrite → ℕ → List (List ℕ)
@@ -94,3 +94,10 @@ pub lawful_waiting : (n : ℕ) (ws : List PendingWrite) (p : Possible) → ((s :
 lawful_waiting n ws p h s c (inl x) = h s c x
 lawful_waiting n ws p h s c (inr (inl x)) = one_lawful (waiting_at n ws s) c x
 lawful_waiting n ws p h s c (inr (inr x)) = subst Lawful (sym x.1) tt
+
+pub laws_waiting : (ws : List PendingWrite) (m : Meaning) → Laws m → Laws (with_waiting ws m)
+laws_waiting ws m l = record {
+  some = λ s. ((l.some s).0, inl (l.some s).1);
+  kept = λ on. kept_waiting m.count ws m.current m.possible (l.kept on);
+  lawful = lawful_waiting m.count ws m.possible l.lawful;
+}

@@ -1,5 +1,4 @@
 //! Writes that last, over any device. Proved from the device's contract alone.
-ghost use Rattle.device.specs.Rules.{meaning};
 ghost use Rattle.device.specs.Leaves.{WritesBoth};
 
 use crate::{Device, Fault, PAYLOAD};
@@ -12,7 +11,7 @@ pub fn write_both<D: Device>(
     second: u32,
     b: &[u8; PAYLOAD],
 ) -> Result<(), Fault>
-    ensures { WritesBoth first a.now second b.now result (meaning (D.sectors device.old) (D.power device.old) (D.current device.old) (D.possible device.old)) (meaning (D.sectors device.new) (D.power device.new) (D.current device.new) (D.possible device.new)) }
+    ensures { WritesBoth first a.now second b.now result (D.means device.old) (D.means device.new) }
 {
     device.write(first, a)?;
     device.write(second, b)?;

@@ -1,9 +1,8 @@
 //! A sector device: what every card, cache and test device promises, and what may be relied on above them.
 #![tactic(auto)]
 
-ghost use Rattle.std.specs.Prelude.{◌≡◌, ℕ, Bool, true};
-ghost use Rattle.device.specs.Sector.{Content, Image, Possible, Found, Lawful};
-ghost use Rattle.device.specs.Rules.{meaning, ReadCall, WriteCall, FlushCall};
+ghost use Rattle.std.specs.Prelude.{◌≡◌};
+ghost use Rattle.device.specs.Rules.{Meaning, Laws, ReadCall, WriteCall, FlushCall};
 
 mod durable;
 mod fault;
@@ -22,43 +21,29 @@ pub const PAYLOAD: usize = 60;
 
 /// A device of numbered sectors. Its contract is the seven rules; `specs/Rules.antt` has each by name.
 pub trait Device {
-    // how many sectors there are, numbered from 0
-    ghost sectors: { Self → ℕ };
+    // how many sectors it has, whether it is on, what each sector holds and what a power cut may leave there
+    ghost means: { Self → Meaning };
 
-    // whether it is on
-    ghost power: { Self → Bool };
-
-    // what each sector holds; of no meaning while the device is off
-    ghost current: { Self → Image };
-
-    // what a power cut may leave in each sector
-    ghost possible: { Self → Possible };
-
-    // Laws. A cut leaves something in every sector; while the device is on, it may leave what is current;
-    // and a payload that it leaves is 60 bytes.
-    ghost some: { (d : Self) (s : ℕ) → (c : Content) × possible d s c };
-
-    ghost kept: { (d : Self) → power d ≡ true → Found (possible d) (current d) };
-
-    ghost lawful: { (d : Self) (s : ℕ) (c : Content) → possible d s c → Lawful c };
+    // what is so of every device at any moment; code over any device relies on it without a call
+    ghost laws: { (d : Self) → Laws (means d) };
 
     /// How many sectors there are. It never changes.
     fn count(&self) -> u32
-        ensures { result ≡ sectors self.now };
+        ensures { result ≡ (means self.now).count };
 
     /// Whether the device is on.
     fn is_on(&self) -> bool
-        ensures { result ≡ power self.now };
+        ensures { result ≡ (means self.now).on };
 
     /// Copies the sector's payload into the caller's bytes.
     fn read(&mut self, sector: u32, into: &mut [u8; PAYLOAD]) -> Result<(), Fault>
-        ensures rules { ReadCall sector into.old into.new result (meaning (sectors self.old) (power self.old) (current self.old) (possible self.old)) (meaning (sectors self.new) (power self.new) (current self.new) (possible self.new)) };
+        ensures rules { ReadCall sector into.old into.new result (means self.old) (means self.new) };
 
     /// Makes the bytes the sector's payload; a cut before the next flush may undo or tear it.
     fn write(&mut self, sector: u32, bytes: &[u8; PAYLOAD]) -> Result<(), Fault>
-        ensures rules { WriteCall sector bytes.now result (meaning (sectors self.old) (power self.old) (current self.old) (possible self.old)) (meaning (sectors self.new) (power self.new) (current self.new) (possible self.new)) };
+        ensures rules { WriteCall sector bytes.now result (means self.old) (means self.new) };
 
     /// Makes every accepted write last.
     fn flush(&mut self) -> Result<(), Fault>
-        ensures rules { FlushCall result (meaning (sectors self.old) (power self.old) (current self.old) (possible self.old)) (meaning (sectors self.new) (power self.new) (current self.new) (possible self.new)) };
+        ensures rules { FlushCall result (means self.old) (means self.new) };
 }

@@ -7,7 +7,8 @@ use Rattle.std.proofs.lemmas.Bool.{ltb-true, and_parts}
 use Rattle.std.proofs.lemmas.List.{length-take, length-append}
 use Rattle.std.proofs.lemmas.Slice.Eq.{bytes_eq-Decides}
 use Rattle.device.specs.Sector.{Content, payload, torn, IsPayload, Lawful}
-use Rattle.media.specs.Rows.{row_for, row_in, all_bytes, sound, held}
+use Rattle.device.specs.Rules.{Laws}
+use Rattle.media.specs.Rows.{row_for, row_in, all_bytes, sound, held, rows_mean}
 
 pub bytes_below : (xs : List ℕ) → all_bytes xs ≡ true → (i : ℕ) → slice_index xs i < 256
 bytes_below [] e i = omega arith
@@ -32,3 +33,7 @@ lawful_if false xs h = tt
 pub held_lawful : (m : List ℕ) (s : ℕ) (c : Content) → c ≡ held m s → Lawful c
 unfolding held
 held_lawful m s c e = subst Lawful (sym e) (lawful_if (sound s (row_in m s)) (take 60 (row_in m s)) (sound_payload s (row_in m s)))
+
+-- the laws of a device hold of any memory
+pub rows_laws : (m : List ℕ) → Laws (rows_mean m)
+rows_laws m = record { some = λ s. (held m s, refl); kept = λ _ s. refl; lawful = held_lawful m }

@@ -2,8 +2,8 @@
 ghost use Rattle.std.specs.Prelude.{◌≡◌, ◌%◌, ◌<◌, true, false, length, MatchResult, ◌≢◌, refl};
 ghost use Rattle.device.specs.Sector.{payload, torn};
 ghost use Rattle.device.specs.Rules.{ReadCall, WriteCall, FlushCall};
-ghost use Rattle.media.specs.Rows.{row_count, held, only, rows_mean, row_for, with_row};
-ghost use Rattle.media.specs.Lawful.{held_lawful};
+ghost use Rattle.media.specs.Rows.{row_count, held, rows_mean, row_for, with_row};
+ghost use Rattle.media.specs.Lawful.{rows_laws};
 
 use crate::memory::MemoryError;
 use crate::rows::{ROW, load, store};
@@ -48,19 +48,9 @@ impl RowImage<'_> {
 }
 
 impl<'a> Device for RowImage<'a> {
-    ghost sectors = { λ d. row_count d.rows.now };
+    ghost means = { λ d. rows_mean d.rows.now };
 
-    ghost power = { λ _. true };
-
-    ghost current = { λ d. held d.rows.now };
-
-    ghost possible = { λ d. only (held d.rows.now) };
-
-    ghost some = { λ d s. (held d.rows.now s, refl) };
-
-    ghost kept = { λ d _ s. refl };
-
-    ghost lawful = { λ d s c e. held_lawful d.rows.now s c e };
+    ghost laws = { λ d. rows_laws d.rows.now };
 
     fn count(&self) -> u32 {
         match u32::try_from(self.rows.len() / ROW) {

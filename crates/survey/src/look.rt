@@ -1,6 +1,5 @@
 //! Telling the condition of every sector of a device.
 ghost use Rattle.std.specs.Prelude.{◌≡◌, true, false, length, replicate, ◌≢◌};
-ghost use Rattle.device.specs.Rules.{meaning};
 ghost use Rattle.survey.specs.Surveys.{Looked, Surveys};
 
 use crate::condition::{Condition, SurveyError};
@@ -21,7 +20,7 @@ fn is_blank(bytes: &[u8]) -> bool
 
 // The condition of one sector, or none where the device does not tell.
 fn look<D: Device>(device: &mut D, sector: u32) -> Option<Condition>
-    ensures { Looked sector result (meaning (D.sectors device.old) (D.power device.old) (D.current device.old) (D.possible device.old)) (meaning (D.sectors device.new) (D.power device.new) (D.current device.new) (D.possible device.new)) }
+    ensures { Looked sector result (D.means device.old) (D.means device.new) }
 {
     let mut bytes = [0u8; PAYLOAD];
     match device.read(sector, &mut bytes) {
@@ -39,7 +38,7 @@ fn look<D: Device>(device: &mut D, sector: u32) -> Option<Condition>
 
 /// Puts the condition of each sector into the caller's table, and tells how many sectors there are.
 pub fn survey<D: Device>(device: &mut D, table: &mut [Condition]) -> Result<usize, SurveyError>
-    ensures { Surveys table.old table.new result (meaning (D.sectors device.old) (D.power device.old) (D.current device.old) (D.possible device.old)) (meaning (D.sectors device.new) (D.power device.new) (D.current device.new) (D.possible device.new)) }
+    ensures { Surveys table.old table.new result (D.means device.old) (D.means device.new) }
 {
     let count = device.count();
     if table.len() < count as usize {

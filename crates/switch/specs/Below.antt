@@ -4,7 +4,7 @@ use Rattle.std.specs.Prelude.{◌≡◌, ℕ, Bool, true, ◌&&◌, List, Err}
 use Rattle.std.proofs.lemmas.Bool.{and_parts}
 use Rattle.device.specs.declared.fault.Fault.TheVariants.{Off}
 use Rattle.device.specs.Faults.{Answer}
-use Rattle.device.specs.Rules.{Meaning, ReadCall, WriteCall, FlushCall}
+use Rattle.device.specs.Rules.{Meaning, meaning, Laws, ReadCall, WriteCall, FlushCall}
 use Rattle.switch.specs.Fates.{ByFate}
 use Rattle.switch.specs.declared.fuse.Fuse.{Fuse}
 use Rattle.switch.specs.declared.fuse.LastWrite.{LastWrite}
@@ -28,6 +28,9 @@ WritesBelow f l s b r Same m m' = ByFate f ((r ≡ Err Off) × Same) ((r ≡ Err
 abbrev pub FlushesBelow : Fuse → Answer → Type 0 → Meaning → Meaning → Type 0
 FlushesBelow f r Same m m' = ByFate f ((r ≡ Err Off) × Same) ((r ≡ Err Off) × Same) (FlushCall r m m')
 
--- what is on together with its switch is on
-pub both_on : (a b : Bool) → a && b ≡ true → b ≡ true
-both_on a b e = (and_parts a b e).1
+-- what a device that means m is under a switch: it is on while both are
+abbrev pub switched : Bool → Meaning → Meaning
+switched on m = meaning m.count (on && m.on) m.current m.possible
+
+pub switched_laws : (on : Bool) (m : Meaning) → Laws m → Laws (switched on m)
+switched_laws on m l = record { some = l.some; kept = λ e. l.kept (and_parts on m.on e).1; lawful = l.lawful }

@@ -1,8 +1,8 @@
 //! A power switch: a device over any device, which turns off within a chosen call.
 ghost use Rattle.std.specs.Prelude.{◌≡◌, true, ◌&&◌};
-ghost use Rattle.device.specs.Rules.{meaning, ReadCall, WriteCall, FlushCall};
+ghost use Rattle.device.specs.Rules.{ReadCall, WriteCall, FlushCall};
 ghost use Rattle.switch.specs.Fates.{Counts};
-ghost use Rattle.switch.specs.Below.{ReadsBelow, WritesBelow, FlushesBelow, both_on};
+ghost use Rattle.switch.specs.Below.{ReadsBelow, WritesBelow, FlushesBelow, switched, switched_laws};
 
 use crate::fuse::{Fate, Fuse, LastWrite};
 use device::{Device, Fault, PAYLOAD};
@@ -46,19 +46,9 @@ impl<D: Device> Switch<D> {
 }
 
 impl<D: Device> Device for Switch<D> {
-    ghost sectors = { λ d. D.Device.sectors d.below };
+    ghost means = { λ d. switched d.fuse.on (D.Device.means d.below) };
 
-    ghost power = { λ d. d.fuse.on && D.Device.power d.below };
-
-    ghost current = { λ d. D.Device.current d.below };
-
-    ghost possible = { λ d. D.Device.possible d.below };
-
-    ghost some = { λ d. D.Device.some d.below };
-
-    ghost kept = { λ d on. D.Device.kept d.below (both_on d.fuse.on (D.Device.power d.below) on) };
-
-    ghost lawful = { λ d. D.Device.lawful d.below };
+    ghost laws = { λ d. switched_laws d.fuse.on (D.Device.means d.below) (D.Device.laws d.below) };
 
     fn count(&self) -> u32 {
         self.below.count()
@@ -69,10 +59,10 @@ impl<D: Device> Device for Switch<D> {
     }
 
     fn read(&mut self, sector: u32, into: &mut [u8; PAYLOAD]) -> Result<(), Fault>
-        ensures rules { ReadCall sector into.old into.new result (meaning (D.Device.sectors self.old.below) (self.old.fuse.on && D.Device.power self.old.below) (D.Device.current self.old.below) (D.Device.possible self.old.below)) (meaning (D.Device.sectors self.new.below) (self.new.fuse.on && D.Device.power self.new.below) (D.Device.current self.new.below) (D.Device.possible self.new.below)) }
+        ensures rules { ReadCall sector into.old into.new result (switched self.old.fuse.on (D.means self.old.below)) (switched self.new.fuse.on (D.means self.new.below)) }
         ensures counted { Counts self.old.fuse self.new.fuse }
         ensures last { self.new.last ≡ self.old.last }
-        ensures below { ReadsBelow self.old.fuse sector into.old into.new result (self.new.below ≡ self.old.below) (meaning (D.Device.sectors self.old.below) (D.Device.power self.old.below) (D.Device.current self.old.below) (D.Device.possible self.old.below)) (meaning (D.Device.sectors self.new.below) (D.Device.power self.new.below) (D.Device.current self.new.below) (D.Device.possible self.new.below)) }
+        ensures below { ReadsBelow self.old.fuse sector into.old into.new result (self.new.below ≡ self.old.below) (D.means self.old.below) (D.means self.new.below) }
     {
         match self.fuse.count_call() {
             Fate::Refused | Fate::Cut => Err(Fault::Off), // the caller's bytes stay
@@ -81,10 +71,10 @@ impl<D: Device> Device for Switch<D> {
     }
 
     fn write(&mut self, sector: u32, bytes: &[u8; PAYLOAD]) -> Result<(), Fault>
-        ensures rules { WriteCall sector bytes.now result (meaning (D.Device.sectors self.old.below) (self.old.fuse.on && D.Device.power self.old.below) (D.Device.current self.old.below) (D.Device.possible self.old.below)) (meaning (D.Device.sectors self.new.below) (self.new.fuse.on && D.Device.power self.new.below) (D.Device.current self.new.below) (D.Device.possible self.new.below)) }
+        ensures rules { WriteCall sector bytes.now result (switched self.old.fuse.on (D.means self.old.below)) (switched self.new.fuse.on (D.means self.new.below)) }
         ensures counted { Counts self.old.fuse self.new.fuse }
         ensures last { self.new.last ≡ self.old.last }
-        ensures below { WritesBelow self.old.fuse self.old.last sector bytes.now result (self.new.below ≡ self.old.below) (meaning (D.Device.sectors self.old.below) (D.Device.power self.old.below) (D.Device.current self.old.below) (D.Device.possible self.old.below)) (meaning (D.Device.sectors self.new.below) (D.Device.power self.new.below) (D.Device.current self.new.below) (D.Device.possible self.new.below)) }
+        ensures below { WritesBelow self.old.fuse self.old.last sector bytes.now result (self.new.below ≡ self.old.below) (D.means self.old.below) (D.means self.new.below) }
     {
         match self.fuse.count_call() {
             Fate::Refused => Err(Fault::Off),
@@ -99,10 +89,10 @@ impl<D: Device> Device for Switch<D> {
     }
 
     fn flush(&mut self) -> Result<(), Fault>
-        ensures rules { FlushCall result (meaning (D.Device.sectors self.old.below) (self.old.fuse.on && D.Device.power self.old.below) (D.Device.current self.old.below) (D.Device.possible self.old.below)) (meaning (D.Device.sectors self.new.below) (self.new.fuse.on && D.Device.power self.new.below) (D.Device.current self.new.below) (D.Device.possible self.new.below)) }
+        ensures rules { FlushCall result (switched self.old.fuse.on (D.means self.old.below)) (switched self.new.fuse.on (D.means self.new.below)) }
         ensures counted { Counts self.old.fuse self.new.fuse }
         ensures last { self.new.last ≡ self.old.last }
-        ensures below { FlushesBelow self.old.fuse result (self.new.below ≡ self.old.below) (meaning (D.Device.sectors self.old.below) (D.Device.power self.old.below) (D.Device.current self.old.below) (D.Device.possible self.old.below)) (meaning (D.Device.sectors self.new.below) (D.Device.power self.new.below) (D.Device.current self.new.below) (D.Device.possible self.new.below)) }
+        ensures below { FlushesBelow self.old.fuse result (self.new.below ≡ self.old.below) (D.means self.old.below) (D.means self.new.below) }
     {
         match self.fuse.count_call() {
             Fate::Refused | Fate::Cut => Err(Fault::Off),

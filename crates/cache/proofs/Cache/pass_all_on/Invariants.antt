@@ -9,5 +9,5 @@ use Rattle.cache.proofs.Cache.pass_all_on.Given as goal
 abbrev pub invariant-loop-k : goal.invariant-loop-k
 invariant-loop-k g l =
     (l.self.held ≡ l.initial.self.held) × (l.k-end ≡ length (listed l.initial.self.held))
-    × Keeps (with_waiting (listed l.initial.self.held) (meaning (g.D.Device.sectors l.initial.self.below) (g.D.Device.power l.initial.self.below) (g.D.Device.current l.initial.self.below) (g.D.Device.possible l.initial.self.below)))
-    (with_waiting (drop l.k (listed l.initial.self.held)) (meaning (g.D.Device.sectors l.self.below) (g.D.Device.power l.self.below) (g.D.Device.current l.self.below) (g.D.Device.possible l.self.below)))
+    × Keeps (with_waiting (listed l.initial.self.held) (g.D.Device.means l.initial.self.below))
+    (with_waiting (drop l.k (listed l.initial.self.held)) (g.D.Device.means l.self.below))

@@ -6,5 +6,5 @@ use Rattle.survey.proofs.look.survey.Given as goal
 
 abbrev pub invariant-loop-sector : goal.invariant-loop-sector
 invariant-loop-sector g l = SoFar l.sector l.initial.table l.table
-    (meaning (g.D.Device.sectors l.initial.device) (g.D.Device.power l.initial.device) (g.D.Device.current l.initial.device) (g.D.Device.possible l.initial.device))
-    (meaning (g.D.Device.sectors l.device) (g.D.Device.power l.device) (g.D.Device.current l.device) (g.D.Device.possible l.device))
+    (g.D.Device.means l.initial.device)
+    (g.D.Device.means l.device)

@@ -3,7 +3,7 @@
 use Rattle.std.proofs.Common.{◌≡◌, ℕ, ◌+◌, ◌<◌, ◌≤◌, true, ◌⊎◌, List, [], ◌∷◌, ◌++◌, length, take, drop, Ok, Err, sym, refl, ap, ◌∙◌, subst, inl, inr, append-nil, arith}
 use Rattle.std.proofs.lemmas.List.{take-append-drop}
 use Rattle.std.proofs.lemmas.Bool.{cases_eq, cases_Bool, both_ways}
-use Rattle.device.specs.declared.fault.Fault.TheVariants.{Off}
+use Rattle.device.specs.declared.fault.Fault.TheVariants.{Off, NoSector}
 use Rattle.device.specs.declared.pending.PendingWrite.{PendingWrite}
 use Rattle.device.specs.Faults.{Answer, returned}
 use Rattle.device.specs.Sector.{Content, torn, Image, Possible, IsPayload}
@@ -23,6 +23,22 @@ accepted_write s b m m' on on' count h p g = record {
   off = record { stays = λ x. absurd (both_ways m.on x on); answers = λ x. absurd (both_ways m.on x on); added = λ x. absurd (both_ways m.on x on) };
   power = on';
   writes = record { answers = λ _. inl refl; puts = λ _. p; gains = λ _. g; refused = λ z. absurd (omega arith) };
+  cut = λ z. absurd (omega arith);
+}
+
+-- a write to a sector that is not there, for a device that is on
+pub refused_write : (s : ℕ) (b : List ℕ) (m : Meaning) → m.on ≡ true → m.count ≤ s → WriteCall s b (Err NoSector) m m
+refused_write s b m on past = record {
+  count = refl;
+  numbered = record { past = λ _. inl refl; below = λ k _. omega arith };
+  off = record { stays = λ x. x; answers = λ x. absurd (both_ways m.on x on); added = λ x. absurd (both_ways m.on x on) };
+  power = on;
+  writes = record {
+    answers = λ k. absurd (omega arith);
+    puts = λ z. absurd (omega arith);
+    gains = λ z. absurd (omega arith);
+    refused = λ _. record { current = λ t. refl; added = λ t c h. h; lost = λ t c h. h };
+  };
   cut = λ z. absurd (omega arith);
 }
 

@@ -29,7 +29,7 @@ pub payload_content : (b : List ℕ) → IsPayload b → content b ≡ payload b
 unfolding content
 payload_content b p = cond-true (is_payload b) (payload b) torn (and_from (length b == 60) (all_bytes b) (eq-eqb (length b) 60 p.sixty) (below_bytes b p.bytes))
 
-lawful_if : (t : Bool) (b : List ℕ) → (t ≡ true → IsPayload b) → Lawful (cond t (payload b) torn)
+pub lawful_if : (t : Bool) (b : List ℕ) → (t ≡ true → IsPayload b) → Lawful (cond t (payload b) torn)
 lawful_if true b h = h refl
 lawful_if false b h = tt
 

@@ -9,12 +9,14 @@ mod fault;
 mod memory;
 mod pending;
 mod queue;
+mod rows;
 
 pub use durable::write_both;
 pub use fault::Fault;
 pub use memory::MemoryError;
 pub use pending::{BLANK, PendingWrite};
 pub use queue::Queue;
+pub use rows::Rows;
 
 /// The bytes of a sector that belong to the caller.
 pub const PAYLOAD: usize = 60;

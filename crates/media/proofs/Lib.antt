@@ -1,2 +1,1 @@
 pub mod Sealing
-pub mod Writing

@@ -1,58 +1,45 @@
-//! Rows of the caller's memory: a sector's payload, then the checksum of the payload and the sector's number.
-ghost use Rattle.std.specs.Prelude.{◌≡◌, ◌<◌, true, false, ◌++◌, length, Ok};
+//! Rows of a row image: a sector's payload, then the checksum of the payload and the sector's number.
+ghost use Rattle.std.specs.Prelude.{◌≡◌, ◌++◌, length, MatchResult};
 ghost use Rattle.crc32c.specs.Crc.{crc};
-ghost use Rattle.device.specs.Rules.{WriteCall};
 ghost use Rattle.device.specs.Sector.{payload, torn};
-ghost use Rattle.media.specs.Rows.{word_bytes, row_for, row_count, rows_mean, sound, held, with_row};
+ghost use Rattle.media.specs.Rows.{word_bytes, row_for, row_holds};
 
 use crc32c::Crc32c;
-use device::PAYLOAD;
+use device::{Fault, PAYLOAD};
 
 /// The bytes of memory that a sector takes.
 pub const ROW: usize = 64;
 
-// The checksum that a payload has in its sector.
-fn checksum_in(sector: u32, bytes: &[u8]) -> u32
-    ensures { result ≡ crc (bytes.now ++ word_bytes sector) }
+// What stands behind a payload in its sector's row: the checksum, low byte first.
+fn seal(sector: u32, bytes: &[u8]) -> [u8; 4]
+    ensures { result ≡ word_bytes (crc (bytes.now ++ word_bytes sector)) }
 {
     Crc32c::new()
         .with(bytes)
         .with(&sector.to_le_bytes())
         .value()
+        .to_le_bytes()
 }
 
-// Whether a row ends in the checksum of its payload.
-fn is_sound(sector: u32, row: &[u8]) -> bool
+// The payload of a sector's row.
+pub(crate) fn payload_of(sector: u32, row: &[u8]) -> Result<&[u8], Fault>
     requires { length row.now ≡ 64 }
-    ensures { result ≡ sound sector row.now }
+    ensures { MatchResult result (λ bytes. (row_holds sector row.now ≡ payload bytes.now) × (length bytes.now ≡ 60)) (λ fault. (row_holds sector row.now ≡ torn) × (fault ≡ Fault.Torn)) }
 {
-    let check = checksum_in(sector, &row[0..PAYLOAD]).to_le_bytes();
-    row[PAYLOAD..ROW] == check[0..4]
-}
-
-// Copies a sector's payload out, and tells whether there is one to copy.
-pub(crate) fn load(rows: &[u8], sector: u32, into: &mut [u8; PAYLOAD]) -> bool
-    requires { sector < row_count rows.now }
-    ensures copied { result ≡ true → held rows.now sector ≡ payload into.new }
-    ensures torn { result ≡ false → (held rows.now sector ≡ torn) × (into.new ≡ into.old) }
-{
-    let at = sector as usize * ROW;
-    let row = &rows[at..at + ROW];
-    if !is_sound(sector, row) {
-        return false;
+    let (bytes, tail) = row.split_at(PAYLOAD);
+    if tail == seal(sector, bytes).as_slice() {
+        Ok(bytes)
+    } else {
+        Err(Fault::Torn)
     }
-    into.copy_from_slice(&row[0..PAYLOAD]);
-    true
 }
 
-// Puts a payload into a sector's row, and leaves every other byte.
-pub(crate) fn store(rows: &mut [u8], sector: u32, bytes: &[u8; PAYLOAD])
-    requires { sector < row_count rows.old }
-    ensures memory { rows.new ≡ with_row rows.old sector (row_for sector bytes.now) }
-    ensures rules { WriteCall sector bytes.now (Ok tt) (rows_mean rows.old) (rows_mean rows.new) }
+// The row that holds a payload in a sector.
+pub(crate) fn row_for(sector: u32, bytes: &[u8; PAYLOAD]) -> [u8; ROW]
+    ensures { result ≡ row_for sector bytes.now }
 {
-    let at = sector as usize * ROW;
-    let check = checksum_in(sector, bytes).to_le_bytes();
-    rows[at..at + PAYLOAD].copy_from_slice(bytes);
-    rows[at + PAYLOAD..at + ROW].copy_from_slice(&check);
+    let mut row = [0; ROW];
+    row[..PAYLOAD].copy_from_slice(bytes);
+    row[PAYLOAD..].copy_from_slice(&seal(sector, bytes));
+    row
 }

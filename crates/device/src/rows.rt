@@ -1,0 +1,70 @@
+//! The caller's memory as rows of one length, a row for each sector.
+ghost use Rattle.std.specs.Prelude.{◌≡◌, ◌≢◌, ◌+◌, ◌*◌, ◌%◌, ◌<◌, ◌≤◌, length, MatchOption, MatchResult};
+ghost use Rattle.device.specs.Memory.{row_count, row_in, with_row};
+
+use crate::Fault;
+
+/// Rows of `ROW` bytes in the caller's memory.
+#[derive(Drop)]
+pub struct Rows<'a, const ROW: usize> {
+    bytes: &'a mut [u8],
+}
+
+impl<'a, const ROW: usize> Rows<'a, ROW> {
+    /// Rows in this memory, as it stands; none if it does not end where a row ends.
+    pub fn new(bytes: &'a mut [u8]) -> Option<Rows<'a, ROW>>
+        ensures { MatchOption result (length bytes.old % ROW ≢ 0) (λ r. (length bytes.old % ROW ≡ 0) × (r.bytes.now ≡ bytes.old) × (r.bytes.ghost_name ≡ bytes.entry.ghost_name)) }
+    {
+        if !bytes.len().is_multiple_of(ROW) {
+            return None;
+        }
+        Some(Rows { bytes })
+    }
+
+    /// The memory, as it stands now.
+    pub fn into_bytes(self) -> &'a mut [u8]
+        ensures value { result.now ≡ self.entry.bytes.now }
+        ensures same { result.ghost_name ≡ self.entry.bytes.ghost_name }
+    {
+        let Rows { bytes } = self;
+        bytes
+    }
+}
+
+impl<const ROW: usize> Rows<'_, ROW> {
+    /// How many sectors there are.
+    pub fn count(&self) -> u32
+        ensures { result ≡ row_count ROW self.now.bytes.now }
+    {
+        let rows = self.bytes.len().checked_div(ROW).unwrap_or(0);
+        u32::try_from(rows).unwrap_or(u32::MAX)
+    }
+
+    /// The row of a sector, if there is one.
+    pub fn get(&self, sector: u32) -> Result<&[u8], Fault>
+        ensures { MatchResult result (λ row. (sector < row_count ROW self.now.bytes.now) × (row.now ≡ row_in ROW self.now.bytes.now sector) × (length row.now ≡ ROW)) (λ fault. (row_count ROW self.now.bytes.now ≤ sector) × (fault ≡ Fault.NoSector)) }
+    {
+        let at = self.place(sector)?;
+        Ok(&self.bytes[at..at + ROW])
+    }
+
+    /// Puts a row in the place of a sector's, if there is one, and leaves every other byte.
+    pub fn put(&mut self, sector: u32, row: &[u8; ROW]) -> Result<(), Fault>
+        ensures put { MatchResult result (λ _. (sector < row_count ROW self.old.bytes.now) × (self.new.bytes.now ≡ with_row ROW self.old.bytes.now sector row.now)) (λ fault. (row_count ROW self.old.bytes.now ≤ sector) × (fault ≡ Fault.NoSector) × (self.new.bytes.now ≡ self.old.bytes.now)) }
+        ensures same { self.new.bytes.ghost_name ≡ self.old.bytes.ghost_name }
+    {
+        let at = self.place(sector)?;
+        self.bytes[at..at + ROW].copy_from_slice(row);
+        Ok(())
+    }
+
+    // Where the row of a sector begins, if there is one.
+    fn place(&self, sector: u32) -> Result<usize, Fault>
+        ensures { MatchResult result (λ at. (sector < row_count ROW self.now.bytes.now) × (at ≡ sector * ROW) × (at + ROW ≤ length self.now.bytes.now)) (λ fault. (row_count ROW self.now.bytes.now ≤ sector) × (fault ≡ Fault.NoSector)) }
+    {
+        if sector >= self.count() {
+            return Err(Fault::NoSector);
+        }
+        Ok(sector as usize * ROW)
+    }
+}

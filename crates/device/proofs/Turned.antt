@@ -29,45 +29,9 @@ module _ {X : Type 0} where
     | inr h ↦ ap length (turned_past xs f h)
   ]
 
-  -- a ring that counts no more than its places holds as many as it counts, and any other holds all
   pub length_ring : (xs : List X) (f k : ℕ) → k ≤ length xs → length (ring xs f k) ≡ k
   unfolding turned
   length_ring xs f k l = length-take-le k (turned xs f) (let n = length_turned xs f in omega arith)
-
-  pub length_full : (xs : List X) (f k : ℕ) → length xs ≤ k → length (ring xs f k) ≡ length xs
-  unfolding turned
-  length_full xs f k l =
-      let n = length_turned xs f in
-      ap length (take_all k (turned xs f) (omega arith)) ∙ n
-
-  -- there are places for all that it holds
-  pub ring_fits : (xs : List X) (f k : ℕ) → length (ring xs f k) ≤ length xs
-  ring_fits xs f k = elim (cases_lt k (length xs)) [
-    | inl h ↦ let n = length_ring xs f k (omega arith) in omega arith
-    | inr h ↦ let n = length_full xs f k h in omega arith
-  ]
-
-  -- it can as well be told by how many it holds
-  told : (xs : List X) (f k n : ℕ) → n ≡ length (ring xs f k) → ring xs f k ≡ ring xs f n
-  unfolding turned
-  told xs f k n e = elim (cases_lt k (length xs)) [
-    | inl h ↦
-        let l = length_ring xs f k (omega arith) in
-        let m : k ≡ n = omega arith in
-        ap (ring xs f) m
-    | inr h ↦
-        let l = length_full xs f k h in
-        let t = length_turned xs f in
-        take_all k (turned xs f) (omega arith) ∙ sym (take_all n (turned xs f) (omega arith))
-  ]
-
-  -- a first that is no place means place 0
-  started : (xs : List X) (f g n : ℕ) → (f < n → g ≡ f) → (n ≤ f → g ≡ 0) → length xs ≡ n → turned xs g ≡ turned xs f
-  unfolding turned
-  started xs f g n kept zero e = elim (cases_lt f n) [
-    | inl h ↦ ap (turned xs) (kept h)
-    | inr h ↦ ap (turned xs) (zero h) ∙ append-nil xs ∙ sym (turned_past xs f (omega arith))
-  ]
 
   -- the place `at` of the list is the place `k` of the turned ring, for a write and for a read
   record Stands (xs : List X) (f k at : ℕ) : Type 0 where
@@ -130,72 +94,44 @@ module _ {X : Type 0} where
       ap (λ (z : List X). drop (f + 1) xs ++ z) (take_more xs f d h)
       ∙ sym (append_assoc (drop (f + 1) xs) (take f xs) (get_or xs f d ∷ []))
 
-  module _ (xs : List X) (f g : ℕ) (kept : f < length xs → g ≡ f) (zero : length xs ≤ f → g ≡ 0) where
-    -- one more, behind all others
-    puts : (k n at : ℕ) (x : X) → Stands xs g n at → n < length xs → n ≡ length (ring xs f k) → ring (set xs at x) f (n + 1) ≡ ring xs f k ++ x ∷ []
-    unfolding turned
-    puts k n at x s l e =
-        let t = length_turned xs g in
-        let a : turned (set xs at x) g ≡ turned (set xs at x) f = started (set xs at x) f g (length xs) kept zero (length-set xs at x) in
-        let b : ring xs g n ≡ ring xs f n = ap (take n) (started xs f g (length xs) kept zero refl) in
-        ap (take (n + 1)) (sym a ∙ s.put x)
-        ∙ take_more_set (turned xs g) n x (omega arith)
-        ∙ ap (λ (z : List X). z ++ x ∷ []) (b ∙ sym (told xs f k n e))
+  -- one more, behind all others
+  puts : (xs : List X) (f n at : ℕ) (x : X) → Stands xs f n at → n < length xs → ring (set xs at x) f (n + 1) ≡ ring xs f n ++ x ∷ []
+  unfolding turned
+  puts xs f n at x s l = ap (take (n + 1)) (s.put x) ∙ take_more_set (turned xs f) n x (let t = length_turned xs f in omega arith)
 
-    -- the one before which `n` others came
-    reads : (k n at : ℕ) (x : X) → Stands xs g n at → at < length xs → n < length (ring xs f k) → x ≡ get_or xs at x → (d : X) → get_or (ring xs f k) n d ≡ x
-    unfolding turned
-    reads k n at x s l m e d =
-        let c = ring_fits xs f k in
-        ap (λ (z : List X). get_or z n d) (told xs f k (length (ring xs f k)) refl)
-        ∙ get_or-take (length (ring xs f k)) (turned xs f) n d m
-        ∙ ap (λ (z : List X). get_or z n d) (sym (started xs f g (length xs) kept zero refl))
-        ∙ s.read d
-        ∙ get_or_default xs at d x l
-        ∙ sym e
+  -- the one before which `n` others came
+  reads : (xs : List X) (f k n at : ℕ) (d : X) → Stands xs f n at → n < k → get_or (ring xs f k) n d ≡ get_or xs at d
+  unfolding turned
+  reads xs f k n at d s h = get_or-take k (turned xs f) n d h ∙ s.read d
 
-    pub puts_near : (k n : ℕ) (x : X) → g + n < length xs → n ≡ length (ring xs f k) → ring (set xs (g + n) x) f (n + 1) ≡ ring xs f k ++ x ∷ []
-    puts_near k n x h = puts k n (g + n) x (stands_near xs g n h) (omega arith)
+  module _ (xs : List X) (f : ℕ) where
+    pub puts_near : (n : ℕ) (x : X) → f + n < length xs → ring (set xs (f + n) x) f (n + 1) ≡ ring xs f n ++ x ∷ []
+    puts_near n x h = puts xs f n (f + n) x (stands_near xs f n h) (omega arith)
 
-    pub puts_round : (k n at : ℕ) (x : X) → at < g → g ≤ length xs → at + length xs ≡ g + n → n ≡ length (ring xs f k) → ring (set xs at x) f (n + 1) ≡ ring xs f k ++ x ∷ []
-    puts_round k n at x h l e = puts k n at x (stands_round xs g n at h l e) (omega arith)
+    pub puts_round : (n at : ℕ) (x : X) → at < f → f ≤ length xs → at + length xs ≡ f + n → n < length xs → ring (set xs at x) f (n + 1) ≡ ring xs f n ++ x ∷ []
+    puts_round n at x h l e m = puts xs f n at x (stands_round xs f n at h l e) m
 
-    pub reads_near : (k n : ℕ) (x : X) → g + n < length xs → n < length (ring xs f k) → x ≡ get_or xs (g + n) x → (d : X) → get_or (ring xs f k) n d ≡ x
-    reads_near k n x h = reads k n (g + n) x (stands_near xs g n h) h
+    pub reads_near : (k n : ℕ) (d : X) → f + n < length xs → n < k → get_or (ring xs f k) n d ≡ get_or xs (f + n) d
+    reads_near k n d h = reads xs f k n (f + n) d (stands_near xs f n h)
 
-    pub reads_round : (k n at : ℕ) (x : X) → at < g → g ≤ length xs → at + length xs ≡ g + n → n < length (ring xs f k) → x ≡ get_or xs at x → (d : X) → get_or (ring xs f k) n d ≡ x
-    reads_round k n at x h l e = reads k n at x (stands_round xs g n at h l e) (omega arith)
+    pub reads_round : (k n at : ℕ) (d : X) → at < f → f ≤ length xs → at + length xs ≡ f + n → n < k → get_or (ring xs f k) n d ≡ get_or xs at d
+    reads_round k n at d h l e = reads xs f k n at d (stands_round xs f n at h l e)
 
     -- the oldest
-    oldest : (k : ℕ) (x : X) → g < length xs → 0 < length (ring xs f k) → get_or (ring xs f k) 0 x ≡ get_or xs g x
-    unfolding turned
-    oldest k x h l =
-        let s = stands_near xs g 0 (omega arith) in
-        ap (λ (z : List X). get_or z 0 x) (told xs f k (length (ring xs f k)) refl)
-        ∙ get_or-take (length (ring xs f k)) (turned xs f) 0 x l
-        ∙ ap (λ (z : List X). get_or z 0 x) (sym (started xs f g (length xs) kept zero refl))
-        ∙ s.read x
-        ∙ ap (λ (z : ℕ). get_or xs z x) (add-zero g)
-
-    from_start : (k n : ℕ) → n + 1 ≡ length (ring xs f k) → ring xs f k ≡ ring xs g (n + 1)
-    unfolding turned
-    from_start k n e = told xs f k (n + 1) e ∙ ap (take (n + 1)) (sym (started xs f g (length xs) kept zero refl))
+    oldest : (k : ℕ) (x : X) → f < length xs → 0 < k → get_or (ring xs f k) 0 x ≡ get_or xs f x
+    oldest k x h l = reads_near k 0 x (omega arith) l ∙ ap (λ (z : ℕ). get_or xs z x) (add-zero f)
 
     -- all but the oldest stand from the next place on, or from place 0 where the oldest stands at the last
-    pub rest_near : (k : ℕ) (x : X) → g < length xs → 0 < length (ring xs f k) → ring xs f k ≡ get_or (ring xs f k) 0 x ∷ ring xs (g + 1) (length (ring xs f k) - 1)
-    rest_near k x h l =
-        let c = ring_fits xs f k in
-        let n = length (ring xs f k) - 1 in
-        from_start k n (omega arith)
-        ∙ rest_of xs g (g + 1) n x h (omega arith) (one_more xs g x h)
-        ∙ ap (λ (z : X). z ∷ ring xs (g + 1) n) (sym (oldest k x h l))
+    pub rest_near : (k : ℕ) (x : X) → f < length xs → 0 < k → k ≤ length xs → ring xs f k ≡ get_or (ring xs f k) 0 x ∷ ring xs (f + 1) (k - 1)
+    rest_near k x h l fits =
+        ap (ring xs f) (omega arith)
+        ∙ rest_of xs f (f + 1) (k - 1) x h (omega arith) (one_more xs f x h)
+        ∙ ap (λ (z : X). z ∷ ring xs (f + 1) (k - 1)) (sym (oldest k x h l))
 
-    pub rest_round : (k : ℕ) (x : X) → length xs ≤ g + 1 → g ≤ length xs - 1 → 0 < length (ring xs f k) → ring xs f k ≡ get_or (ring xs f k) 0 x ∷ ring xs 0 (length (ring xs f k) - 1)
+    pub rest_round : (k : ℕ) (x : X) → length xs ≤ f + 1 → f < length xs → 0 < k → k ≤ length xs → ring xs f k ≡ get_or (ring xs f k) 0 x ∷ ring xs 0 (k - 1)
     unfolding turned
-    rest_round k x m h l =
-        let c = ring_fits xs f k in
-        let n = length (ring xs f k) - 1 in
-        let t : turned xs 0 ≡ turned xs (g + 1) = append-nil xs ∙ sym (turned_past xs (g + 1) m) in
-        from_start k n (omega arith)
-        ∙ rest_of xs g 0 n x (omega arith) (omega arith) (t ∙ one_more xs g x (omega arith))
-        ∙ ap (λ (z : X). z ∷ ring xs 0 n) (sym (oldest k x (omega arith) l))
+    rest_round k x m h l fits =
+        let t : turned xs 0 ≡ turned xs (f + 1) = append-nil xs ∙ sym (turned_past xs (f + 1) m) in
+        ap (ring xs f) (omega arith)
+        ∙ rest_of xs f 0 (k - 1) x h (omega arith) (t ∙ one_more xs f x h)
+        ∙ ap (λ (z : X). z ∷ ring xs 0 (k - 1)) (sym (oldest k x h l))

@@ -1,19 +1,20 @@
 //! A queue in the caller's memory: first in, first out, in a ring of places. It allocates nothing.
 ghost use Rattle.std.specs.Prelude.{◌≡◌, ◌+◌, ◌-◌, ◌<◌, ◌≤◌, [], ◌∷◌, ◌++◌, length, MatchOption, MatchResult, ◌==◌, slice_index_or, slice_set};
-ghost use Rattle.device.specs.Queues.{ring, waiting, places, At};
 
 /// A first-in first-out queue in the caller's places.
-// It has no ghost field: a struct may then hold one by value, and a constructor may refuse one. So its
-// numbers may be any, and `start` and `taken` say what they mean.
 #[derive(Drop)]
 pub struct Queue<'a, T> {
     slots: &'a mut [T],
     // where the oldest stands; the others follow it, and place 0 follows the last place
     first: usize,
     len: usize,
+    ghost fits: { len ≤ length slots.now },
+    ghost inside: { first ≤ length slots.now - 1 },
 }
 
 impl<'a, T: Copy> Queue<'a, T> {
+    ghost use Rattle.device.specs.Queues.{ring, waiting, places, At};
+
     /// An empty queue in these places, which it leaves as they are.
     pub fn new(slots: &'a mut [T]) -> Queue<'a, T>
         ensures empty { waiting result ≡ [] }
@@ -32,7 +33,7 @@ impl<'a, T: Copy> Queue<'a, T> {
         ensures count { result ≡ length (waiting self.now) }
         ensures fit { result ≤ places self.now }
     {
-        self.taken()
+        self.len // of those that wait
     }
 
     /// Whether nothing waits.
@@ -53,7 +54,7 @@ impl<'a, T: Copy> Queue<'a, T> {
     pub fn get(&self, k: usize) -> Option<T>
         ensures { MatchOption result (length (waiting self.now) ≤ k) (λ x. At (waiting self.now) k x) }
     {
-        if k >= self.taken() {
+        if k >= self.len {
             return None;
         }
         Some(self.read(k))
@@ -65,13 +66,13 @@ impl<'a, T: Copy> Queue<'a, T> {
         ensures room { places self.new ≡ places self.old }
         ensures same { self.new.slots.ghost_name ≡ self.old.slots.ghost_name }
     {
-        let taken = self.taken();
-        if taken == self.slots.len() {
+        if self.len == self.slots.len() {
             return Err(x);
         }
-        let end = self.place(taken);
+        let len = self.len;
+        let end = self.place(len);
         self.slots[end] = x;
-        self.len = taken + 1;
+        self.len = len + 1;
         Ok(())
     }
 
@@ -81,13 +82,12 @@ impl<'a, T: Copy> Queue<'a, T> {
         ensures untouched { self.new.slots.now ≡ self.old.slots.now }
         ensures same { self.new.slots.ghost_name ≡ self.old.slots.ghost_name }
     {
-        let taken = self.taken();
-        if taken == 0 {
+        if self.len == 0 {
             return None;
         }
         let oldest = self.read(0);
         self.first = self.second();
-        self.len = taken - 1;
+        self.len -= 1;
         Some(oldest)
     }
 
@@ -109,26 +109,14 @@ impl<'a, T: Copy> Queue<'a, T> {
         slots
     }
 
-    // How many places are taken.
-    fn taken(&self) -> usize
-        ensures count { result ≡ length (waiting self.now) }
-        ensures fit { result ≤ places self.now }
-        ensures none { result ≡ 0 → waiting self.now ≡ [] }
+    /// Those that wait, oldest first, as they stand in the places: in two pieces, since place 0 follows the last.
+    pub fn as_slices(&self) -> (&[T], &[T])
+        ensures { waiting self.now ≡ result.0.now ++ result.1.now }
     {
-        let places = self.slots.len();
-        if self.len < places { self.len } else { places }
-    }
-
-    // The place of the oldest.
-    fn start(&self) -> usize
-        ensures inside { result ≤ places self.now - 1 }
-        ensures first { self.now.first < places self.now → result ≡ self.now.first }
-        ensures zero { places self.now ≤ self.now.first → result ≡ 0 }
-    {
-        if self.first < self.slots.len() {
-            self.first
-        } else {
-            0
+        let (second, first) = self.slots.split_at(self.first);
+        match self.len.checked_sub(first.len()) {
+            Some(more) => (first, &second[..more]),
+            None => (&first[..self.len], &second[..0]),
         }
     }
 
@@ -137,13 +125,12 @@ impl<'a, T: Copy> Queue<'a, T> {
     fn place(&self, after: usize) -> usize
         requires { after < places self.now }
         ensures inside { result < length self.now.slots.now }
-        ensures puts { after ≡ length (waiting self.now) → (x : T) → ring (slice_set self.now.slots.now result x) self.now.first (after + 1) ≡ waiting self.now ++ x ∷ [] }
-        ensures reads { after < length (waiting self.now) → (x : T) → x ≡ slice_index_or self.now.slots.now result x → (d : T) → slice_index_or (waiting self.now) after d ≡ x }
+        ensures puts { after ≡ self.now.len → (x : T) → ring (slice_set self.now.slots.now result x) self.now.first (after + 1) ≡ waiting self.now ++ x ∷ [] }
+        ensures reads { after < self.now.len → (d : T) → slice_index_or (waiting self.now) after d ≡ slice_index_or self.now.slots.now result d }
     {
-        let start = self.start();
-        let past = self.slots.len() - start;
+        let past = self.slots.len() - self.first;
         if after < past {
-            start + after
+            self.first + after
         } else {
             after - past
         }
@@ -151,8 +138,7 @@ impl<'a, T: Copy> Queue<'a, T> {
 
     // The one before which so many others came.
     fn read(&self, before: usize) -> T
-        requires below { before < length (waiting self.now) }
-        requires fit { length (waiting self.now) ≤ places self.now }
+        requires { before < self.now.len }
         ensures any { (d : T) → slice_index_or (waiting self.now) before d ≡ result }
         ensures own { slice_index_or (waiting self.now) before result ≡ result }
     {
@@ -162,12 +148,12 @@ impl<'a, T: Copy> Queue<'a, T> {
 
     // The place of the second oldest: from there on stand all but the oldest.
     fn second(&self) -> usize
-        requires { 0 < length (waiting self.now) }
-        ensures { (x : T) → waiting self.now ≡ slice_index_or (waiting self.now) 0 x ∷ ring self.now.slots.now result (length (waiting self.now) - 1) }
+        requires { 0 < self.now.len }
+        ensures inside { result ≤ places self.now - 1 }
+        ensures rest { (x : T) → waiting self.now ≡ slice_index_or (waiting self.now) 0 x ∷ ring self.now.slots.now result (self.now.len - 1) }
     {
-        let before_last = self.slots.len().saturating_sub(1);
-        let start = self.start();
-        if start < before_last { start + 1 } else { 0 }
+        let next = self.first + 1;
+        if next < self.slots.len() { next } else { 0 }
     }
 }
 

@@ -4,14 +4,8 @@ use Rattle.std.proofs.Common.{arith}
 use Rattle.device.proofs.Turned.{rest_near, rest_round}
 use Rattle.device.proofs.queue.Queue.second.Goals as goal
 
-pub returns-then-start-before_last : goal.returns-then-start-before_last
-returns-then-start-before_last g c x =
-    let q = c.args.self.now in
-    let e = c.start-start.ensures in
-    rest_near q.slots.now q.first c.start-start.result e.first e.zero q.len x (omega arith) c.requires
+pub returns-then-next-self-clause-rest : goal.returns-then-next-self-clause-rest
+returns-then-next-self-clause-rest g c x = let q = c.args.self.now in let f = q.fits in rest_near q.slots.now q.first q.len x (omega arith) c.requires (omega arith)
 
-pub returns-else-start-before_last : goal.returns-else-start-before_last
-returns-else-start-before_last g c x =
-    let q = c.args.self.now in
-    let e = c.start-start.ensures in
-    rest_round q.slots.now q.first c.start-start.result e.first e.zero q.len x (omega arith) (omega arith) c.requires
+pub returns-else-next-self-clause-rest : goal.returns-else-next-self-clause-rest
+returns-else-next-self-clause-rest g c x = let q = c.args.self.now in let f = q.fits in rest_round q.slots.now q.first q.len x (omega arith) (omega arith) c.requires (omega arith)

@@ -1,25 +1,50 @@
 -- Writes that wait are made durable, one or all.
 -- Assumes nothing.
-use Rattle.std.proofs.Common.{◌≡◌, ℕ, ◌<◌, ◌≤◌, Bool, true, false, cond, ltb, List, [], ◌∷◌, ◌++◌, length, take, drop, Ok, sym, refl, ap, ◌∙◌, subst, inl, inr, arith}
+use Rattle.std.proofs.Common.{◌≡◌, ℕ, ◌<◌, ◌≤◌, Bool, true, false, cond, ltb, List, [], ◌∷◌, ◌++◌, length, take, drop, Ok, Err, Some, None, Option, MatchOption, MatchResult, append-nil, sym, refl, ap, ◌∙◌, subst, inl, inr, arith}
 use Rattle.std.proofs.lemmas.List.{length-drop}
 use Rattle.std.proofs.lemmas.Bool.{cases_lt, ltb-true, ltb-false, lt-ltb, le-ltb, cond-true, cond-false}
+use Rattle.device.specs.declared.fault.Fault.TheVariants.{NoSector}
 use Rattle.device.specs.declared.pending.PendingWrite.{PendingWrite}
-use Rattle.device.specs.Sector.{IsPayload}
+use Rattle.device.specs.Faults.{Answer}
+use Rattle.device.specs.Sector.{payload, IsPayload}
 use Rattle.device.specs.Rules.{WriteCall, FlushCall}
-use Rattle.device.specs.Waiting.{waiting_at, room_in, with_waiting, Keeps}
+use Rattle.device.specs.Waiting.{waiting_at, youngest, Absent, NoneFor, Holds, room_in, with_waiting, Keeps}
+use Rattle.device.proofs.Lists.{absent_waiting, absent_append, waiting_append, youngest_append}
 use Rattle.device.proofs.Waits.{passed_on, past_dropped, flushed, accepted_flush, joins, keeps_write, write_keeps}
-use Rattle.bench.specs.Rows.{row_count, rows_mean}
+use Rattle.device.specs.Memory.{row_count, with_row}
+use Rattle.device.proofs.Lasting.{row_written}
+use Rattle.bench.specs.Rows.{readable, row_holds, rows_mean}
+use Rattle.bench.proofs.Marking.{readable_long, holds_readable}
 use Rattle.bench.specs.Waits.{MakesDurable, LetsWait, stored, stored_all, room_made}
+
+-- putting the write's row makes it durable
+pub durable_made : (w : PendingWrite) (m m' r : List ℕ) (a : Answer) → IsPayload w.bytes → r ≡ readable w.bytes
+    → MatchResult a (λ _. (w.sector < row_count 61 m) × (m' ≡ with_row 61 m w.sector r)) (λ f. (row_count 61 m ≤ w.sector) × (f ≡ NoSector) × (m' ≡ m)) → MakesDurable w m m'
+durable_made w m m' r (Ok _) is e p =
+    let whole : m' ≡ with_row 61 m w.sector (readable w.bytes) = p.1 ∙ ap (with_row 61 m w.sector) e in
+    record {
+      whole = is;
+      here = λ _. whole;
+      rules = λ h. subst (λ (z : List ℕ). WriteCall w.sector w.bytes (Ok tt) (rows_mean m) (rows_mean z)) (sym whole)
+          (row_written (λ _. row_holds) 61 m w.sector (readable w.bytes) h (readable_long w.bytes is.sixty) w.bytes (holds_readable w.bytes is));
+      past = λ h. let k = p.0 in absurd (omega arith);
+    }
+durable_made w m m' r (Err f) is e p = record {
+  whole = is;
+  here = λ h. let k = p.0 in absurd (omega arith);
+  rules = λ h. let k = p.0 in absurd (omega arith);
+  past = λ _. p.2;
+}
 
 module _ (w : PendingWrite) (m m' : List ℕ) (d : MakesDurable w m m') where
   pub made_stored : m' ≡ stored w m
-  made_stored = elim (cases_lt w.sector (row_count m)) [
-    | inl h ↦ d.here h ∙ sym (cond-true (ltb w.sector (row_count m)) _ m (lt-ltb w.sector (row_count m) h))
-    | inr h ↦ d.past h ∙ sym (cond-false (ltb w.sector (row_count m)) _ m (le-ltb w.sector (row_count m) h))
+  made_stored = elim (cases_lt w.sector (row_count 61 m)) [
+    | inl h ↦ d.here h ∙ sym (cond-true (ltb w.sector (row_count 61 m)) _ m (lt-ltb w.sector (row_count 61 m) h))
+    | inr h ↦ d.past h ∙ sym (cond-false (ltb w.sector (row_count 61 m)) _ m (le-ltb w.sector (row_count 61 m) h))
   ]
 
   pub made_keeps : (ws : List PendingWrite) → Keeps (with_waiting (w ∷ ws) (rows_mean m)) (with_waiting ws (rows_mean m'))
-  made_keeps ws = elim (cases_lt w.sector (row_count m)) [
+  made_keeps ws = elim (cases_lt w.sector (row_count 61 m)) [
     | inl h ↦ passed_on w ws (rows_mean m) (rows_mean m') (Ok tt) h d.whole (d.rules h) refl
     | inr h ↦ subst (λ (z : List ℕ). Keeps (with_waiting (w ∷ ws) (rows_mean m)) (with_waiting ws (rows_mean z))) (sym (d.past h))
         (past_dropped w ws (rows_mean m) (rows_mean m) h (record { count = refl; on = refl; contents = record { current = λ s. refl; added = λ s c x. x; lost = λ s c x. x } }))
@@ -64,11 +89,11 @@ all_flushed ws ws₁ ws₂ m m₁ m₂ e e₁ e₂ s k =
     )
 
 -- A write joins those that wait.
-pub lets_join : (w : PendingWrite) (ws ws' : List PendingWrite) (m : List ℕ) → IsPayload w.bytes → ws' ≡ ws ++ w ∷ [] → w.sector < row_count m → WriteCall w.sector w.bytes (Ok tt) (with_waiting ws (rows_mean m)) (with_waiting ws' (rows_mean m))
+pub lets_join : (w : PendingWrite) (ws ws' : List PendingWrite) (m : List ℕ) → IsPayload w.bytes → ws' ≡ ws ++ w ∷ [] → w.sector < row_count 61 m → WriteCall w.sector w.bytes (Ok tt) (with_waiting ws (rows_mean m)) (with_waiting ws' (rows_mean m))
 lets_join w ws ws' m is e h = subst (λ (z : List PendingWrite). WriteCall w.sector w.bytes (Ok tt) (with_waiting ws (rows_mean m)) (with_waiting z (rows_mean m))) (sym e) (joins ws (rows_mean m) w h is refl)
 
 -- all that waited became durable, and then the write itself
-pub lets_last : (w : PendingWrite) (ws ws₁ ws₂ : List PendingWrite) (m m₁ m₂ : List ℕ) → ws₁ ≡ [] → ws₂ ≡ ws₁ → Keeps (with_waiting ws (rows_mean m)) (with_waiting ws₁ (rows_mean m₁)) → MakesDurable w m₁ m₂ → w.sector < row_count m
+pub lets_last : (w : PendingWrite) (ws ws₁ ws₂ : List PendingWrite) (m m₁ m₂ : List ℕ) → ws₁ ≡ [] → ws₂ ≡ ws₁ → Keeps (with_waiting ws (rows_mean m)) (with_waiting ws₁ (rows_mean m₁)) → MakesDurable w m₁ m₂ → w.sector < row_count 61 m
     → WriteCall w.sector w.bytes (Ok tt) (with_waiting ws (rows_mean m)) (with_waiting ws₂ (rows_mean m₂))
 lets_last w ws ws₁ ws₂ m m₁ m₂ e₁ e₂ k d h =
     let k₁ = subst (λ (z : List PendingWrite). Keeps (with_waiting ws (rows_mean m)) (with_waiting z (rows_mean m₁))) e₁ k in
@@ -98,3 +123,14 @@ module _ (w : PendingWrite) (ws ws₁ ws₂ : List PendingWrite) (p p₁ : ℕ) 
     memory = λ h. (joined (one_place h)).1 ∙ made;
     few = λ h. let r = room_few (ltb (length ws) 8) ws refl h in few (let e = ap length gone in omega arith);
   }
+
+-- The youngest write to a sector among xs and then ys: that among ys, or else that among xs.
+pub first_piece : (s : ℕ) (ws xs ys : List PendingWrite) → ws ≡ xs ++ ys → (r : Option PendingWrite) → Absent s ys → MatchOption r (Absent s xs) (λ w. IsPayload w.bytes → Holds s w.bytes xs)
+    → MatchOption r (NoneFor s ws) (λ w. IsPayload w.bytes → Holds s w.bytes ws)
+first_piece s ws xs ys e None none h = absent_waiting s ws (subst (Absent s) (sym e) (absent_append s xs ys h none))
+first_piece s ws xs ys e (Some w) none h = λ is n c m. subst (λ (z : List PendingWrite). youngest (waiting_at n z s) c ≡ payload w.bytes) (sym e)
+    (ap (λ (z : List (List ℕ)). youngest z c) (waiting_append n xs ys s ∙ ap (λ (z : List (List ℕ)). waiting_at n xs s ++ z) (absent_waiting s ys none n) ∙ append-nil (waiting_at n xs s)) ∙ h is n c m)
+
+pub second_piece : (s : ℕ) (ws xs ys : List PendingWrite) → ws ≡ xs ++ ys → (w : PendingWrite) → (IsPayload w.bytes → Holds s w.bytes ys) → IsPayload w.bytes → Holds s w.bytes ws
+second_piece s ws xs ys e w h is n c m = subst (λ (z : List PendingWrite). youngest (waiting_at n z s) c ≡ payload w.bytes) (sym e)
+    (ap (λ (z : List (List ℕ)). youngest z c) (waiting_append n xs ys s) ∙ youngest_append (waiting_at n xs s) (waiting_at n ys s) c ∙ h is n (youngest (waiting_at n xs s) c) m)

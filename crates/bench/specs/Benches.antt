@@ -12,7 +12,7 @@ use Rattle.bench.specs.Rows.{rows_mean}
 
 -- the bytes of its rows
 abbrev pub memory : Bench → List ℕ
-memory d = d.rows.now
+memory d = d.rows.bytes.now
 
 -- the writes that wait, oldest first
 abbrev pub queued : Bench → List PendingWrite
@@ -28,7 +28,7 @@ means d = with_waiting (queued d) (rows_mean (memory d))
 
 -- it stands on the same pieces of the caller's memory, with as many places
 pub record SamePlaces (d d' : Bench) : Type 0 where
-  pub rows : d'.rows.ghost_name ≡ d.rows.ghost_name
+  pub rows : d'.rows.bytes.ghost_name ≡ d.rows.bytes.ghost_name
   pub slots : d'.pending.slots.ghost_name ≡ d.pending.slots.ghost_name
   pub room : room_for d' ≡ room_for d
 

@@ -1,11 +1,10 @@
 -- The rows of the bench device: 61 bytes of memory for each sector, its payload and then a mark.
 -- Assumes nothing.
-use Rattle.std.specs.Prelude.{◌≡◌, ℕ, ◌/◌, min, Bool, true, false, cond, List, [], ◌∷◌, ◌++◌, length, take, ◌==◌, slice_index_or, refl}
-use Rattle.std.proofs.Common.{sym, subst}
+use Rattle.std.specs.Prelude.{ℕ, Bool, true, false, cond, List, [], ◌∷◌, ◌++◌, take, ◌==◌, slice_index_or}
 use Rattle.device.specs.Sector.{Content, torn, Image, Lawful}
 use Rattle.device.specs.Bytes.{content, content_lawful}
-use Rattle.device.specs.Rules.{Meaning, meaning, Laws}
-use Rattle.device.specs.Memory.{row_in, only}
+use Rattle.device.specs.Rules.{Meaning, Laws}
+use Rattle.device.specs.Memory.{held_by, lasting, lasting_laws}
 
 -- the row that holds payload b: the mark 0 says that it can be read
 abbrev pub readable : List ℕ → List ℕ
@@ -24,25 +23,21 @@ unfoldable pub row_holds : List ℕ → Content
 row_holds r = cond (is_readable r) (content (take 60 r)) torn
 
 -- what memory m holds in sector s
-unfoldable pub durable : List ℕ → Image
-durable m s = row_holds (row_in 61 m s)
-
--- how many sectors memory m has room for; their numbers and their count have 32 bits
-abbrev pub row_count : List ℕ → ℕ
-row_count m = min (length m / 61) 4294967295
+abbrev pub durable : List ℕ → Image
+durable m = held_by (λ _. row_holds) 61 m
 
 -- what a device over memory m means with no writes waiting: it is on, and its only possible contents are the current ones
 abbrev pub rows_mean : List ℕ → Meaning
-rows_mean m = meaning (row_count m) true (durable m) (only (durable m))
+rows_mean m = lasting (λ _. row_holds) 61 m
 
-lawful_if : (t : Bool) (b : List ℕ) → Lawful (cond t (content b) torn)
-lawful_if true b = content_lawful b
-lawful_if false b = tt
+lawful_either : (t : Bool) (b : List ℕ) → Lawful (cond t (content b) torn)
+lawful_either true b = content_lawful b
+lawful_either false b = tt
 
-pub durable_lawful : (m : List ℕ) (s : ℕ) (c : Content) → c ≡ durable m s → Lawful c
-unfolding durable row_holds
-durable_lawful m s c e = subst Lawful (sym e) (lawful_if (is_readable (row_in 61 m s)) (take 60 (row_in 61 m s)))
+row_lawful : (r : List ℕ) → Lawful (row_holds r)
+unfolding row_holds
+row_lawful r = lawful_either (is_readable r) (take 60 r)
 
 -- the laws of a device hold of any memory
 pub rows_laws : (m : List ℕ) → Laws (rows_mean m)
-rows_laws m = record { some = λ s. (durable m s, refl); kept = λ _ s. refl; lawful = durable_lawful m }
+rows_laws m = lasting_laws (λ _. row_holds) (λ _. row_lawful) 61 m

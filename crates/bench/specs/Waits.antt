@@ -5,20 +5,20 @@ use Rattle.device.specs.declared.pending.PendingWrite.{PendingWrite}
 use Rattle.device.specs.Faults.{Answer}
 use Rattle.device.specs.Sector.{IsPayload}
 use Rattle.device.specs.Rules.{WriteCall}
-use Rattle.device.specs.Memory.{with_row}
+use Rattle.device.specs.Memory.{row_count, with_row}
 use Rattle.device.specs.Waiting.{room_in}
-use Rattle.bench.specs.Rows.{readable, row_count, rows_mean}
+use Rattle.bench.specs.Rows.{readable, rows_mean}
 
 -- memory m with the write w made durable, if there is such a sector
 abbrev pub stored : PendingWrite → List ℕ → List ℕ
-stored w m = cond (nat_lt w.sector (row_count m)) (with_row 61 m w.sector (readable w.bytes)) m
+stored w m = cond (nat_lt w.sector (row_count 61 m)) (with_row 61 m w.sector (readable w.bytes)) m
 
 -- the write w takes memory m to m'
 pub record MakesDurable (w : PendingWrite) (m m' : List ℕ) : Type 0 where
   pub whole : IsPayload w.bytes
-  pub here : w.sector < row_count m → m' ≡ with_row 61 m w.sector (readable w.bytes)
-  pub rules : w.sector < row_count m → WriteCall w.sector w.bytes (Ok tt) (rows_mean m) (rows_mean m')
-  pub past : row_count m ≤ w.sector → m' ≡ m
+  pub here : w.sector < row_count 61 m → m' ≡ with_row 61 m w.sector (readable w.bytes)
+  pub rules : w.sector < row_count 61 m → WriteCall w.sector w.bytes (Ok tt) (rows_mean m) (rows_mean m')
+  pub past : row_count 61 m ≤ w.sector → m' ≡ m
 
 -- memory m with all of ws made durable, the first of them first
 abbrev pub stored_all : List PendingWrite → List ℕ → List ℕ

@@ -1,14 +1,15 @@
 //! The bench device: writes wait, at most eight, until they are made durable; it never turns off.
-ghost use Rattle.std.specs.Prelude.{◌≡◌, ◌%◌, ◌<◌, ◌≤◌, true, false, [], ◌∷◌, ◌++◌, length, IfNone, Ok, MatchOption, MatchResult, refl};
-ghost use Rattle.device.specs.Sector.{payload, torn, IsPayload};
+ghost use Rattle.std.specs.Prelude.{◌≡◌, ◌%◌, ◌<◌, ◌≤◌, [], ◌∷◌, ◌++◌, length, IfNone, Ok, MatchOption, MatchResult};
+ghost use Rattle.device.specs.Sector.{IsPayload};
 ghost use Rattle.device.specs.Rules.{ReadCall, WriteCall, FlushCall};
-ghost use Rattle.device.specs.Waiting.{NoneFor, Holds, Keeps, room_in, laws_waiting};
-ghost use Rattle.bench.specs.Rows.{durable, row_count, rows_mean, rows_laws};
+ghost use Rattle.device.specs.Memory.{row_count};
+ghost use Rattle.device.specs.Waiting.{Absent, NoneFor, Holds, Keeps, room_in, laws_waiting};
+ghost use Rattle.bench.specs.Rows.{rows_mean, rows_laws};
 ghost use Rattle.bench.specs.Benches.{Made, Refuses, SamePlaces, means, memory, queued, room_for};
 ghost use Rattle.bench.specs.Waits.{MakesDurable, LetsWait, WaitsAfter, stored_all, room_made};
 
-use crate::rows::{ROW, count_of, load, store};
-use device::{Device, Fault, MemoryError, PAYLOAD, PendingWrite, Queue};
+use crate::rows::{READABLE, ROW, marked, payload_of};
+use device::{Device, Fault, MemoryError, PAYLOAD, PendingWrite, Queue, Rows, youngest_to};
 
 /// How many writes wait at most.
 pub const WAITING: usize = 8;
@@ -16,7 +17,7 @@ pub const WAITING: usize = 8;
 /// A device over rows of the caller's memory, with writes that wait in the caller's places.
 #[derive(Drop)]
 pub struct Bench<'a> {
-    pub(crate) rows: &'a mut [u8],
+    pub(crate) rows: Rows<'a, ROW>,
     pub(crate) pending: Queue<'a, PendingWrite>,
 }
 
@@ -24,11 +25,9 @@ impl<'a> Bench<'a> {
     /// A device over this memory, as it stands, with nothing waiting. Refused if the memory is not whole rows, or if there are
     /// places for fewer than eight writes.
     pub fn new(rows: &'a mut [u8], slots: &'a mut [PendingWrite]) -> Result<Bench<'a>, MemoryError>
-        ensures { MatchResult result (λ d. (length rows.old % 61 ≡ 0) × (8 ≤ length slots.old) × Made rows.old slots.old d × (d.rows.ghost_name ≡ rows.entry.ghost_name) × (d.pending.slots.ghost_name ≡ slots.entry.ghost_name)) (λ e. Refuses rows.old (length slots.old) e) }
+        ensures { MatchResult result (λ d. (length rows.old % 61 ≡ 0) × (8 ≤ length slots.old) × Made rows.old slots.old d × (d.rows.bytes.ghost_name ≡ rows.entry.ghost_name) × (d.pending.slots.ghost_name ≡ slots.entry.ghost_name)) (λ e. Refuses rows.old (length slots.old) e) }
     {
-        if rows.len() % ROW != 0 {
-            return Err(MemoryError::NotWholeRows);
-        }
+        let rows = Rows::new(rows).ok_or(MemoryError::NotWholeRows)?;
         if slots.len() < WAITING {
             return Err(MemoryError::FewPlaces);
         }
@@ -38,40 +37,22 @@ impl<'a> Bench<'a> {
 
     /// The memory and the places, as they stand now. What still waits is lost: flush or settle first.
     pub fn into_parts(self) -> (&'a mut [u8], &'a mut [PendingWrite])
-        ensures rows { (result.0.now ≡ self.entry.rows.now) × (result.0.ghost_name ≡ self.entry.rows.ghost_name) }
+        ensures rows { (result.0.now ≡ self.entry.rows.bytes.now) × (result.0.ghost_name ≡ self.entry.rows.bytes.ghost_name) }
         ensures slots { (result.1.now ≡ self.entry.pending.slots.now) × (result.1.ghost_name ≡ self.entry.pending.slots.ghost_name) }
     {
         let Bench { rows, pending } = self;
-        (rows, pending.into_slots())
+        (rows.into_bytes(), pending.into_slots())
     }
 }
 
 impl Bench<'_> {
-    // How many sectors there are.
-    pub(crate) fn room(&self) -> u32
-        ensures { result ≡ row_count (memory self.now) }
-    {
-        count_of(self.rows)
-    }
-
-    // Copies a sector's durable payload out, and tells whether there is one to copy.
-    fn copy_out(&self, sector: u32, into: &mut [u8; PAYLOAD]) -> bool
-        requires { sector < row_count (memory self.now) }
-        ensures copied { result ≡ true → durable (memory self.now) sector ≡ payload into.new }
-        ensures torn { result ≡ false → (durable (memory self.now) sector ≡ torn) × (into.new ≡ into.old) }
-    {
-        load(self.rows, sector, into)
-    }
-
     // Makes a write durable. A sector that is not there is passed over.
     fn put(&mut self, write: PendingWrite)
         ensures memory { MakesDurable write (memory self.old) (memory self.new) }
         ensures pending { self.new.pending ≡ self.old.pending }
-        ensures same { self.new.rows.ghost_name ≡ self.old.rows.ghost_name }
+        ensures same { self.new.rows.bytes.ghost_name ≡ self.old.rows.bytes.ghost_name }
     {
-        if write.sector < self.room() {
-            store(self.rows, write.sector, &write.bytes);
-        }
+        let _ = self.rows.put(write.sector, &marked(&write.bytes, READABLE));
     }
 
     // Takes the oldest write that waits out of the queue.
@@ -115,7 +96,7 @@ impl Bench<'_> {
 
     // Lets one more wait. Where no place is left, which a bench with room for eight never sees, all becomes durable at once.
     fn append(&mut self, write: PendingWrite)
-        ensures rules { IsPayload write.bytes → write.sector < row_count (memory self.old) → WriteCall write.sector write.bytes (Ok tt) (means self.old) (means self.new) }
+        ensures rules { IsPayload write.bytes → write.sector < row_count 61 (memory self.old) → WriteCall write.sector write.bytes (Ok tt) (means self.old) (means self.new) }
         ensures joined { length (queued self.old) < room_for self.old → (queued self.new ≡ queued self.old ++ write ∷ []) × (memory self.new ≡ memory self.old) }
         ensures few { length (queued self.old) < 8 → length (queued self.new) ≤ 8 }
         ensures same { SamePlaces self.old self.new }
@@ -128,7 +109,7 @@ impl Bench<'_> {
 
     // Lets a write wait, behind all others.
     fn let_wait(&mut self, write: PendingWrite)
-        ensures rules { IsPayload write.bytes → write.sector < row_count (memory self.old) → WriteCall write.sector write.bytes (Ok tt) (means self.old) (means self.new) }
+        ensures rules { IsPayload write.bytes → write.sector < row_count 61 (memory self.old) → WriteCall write.sector write.bytes (Ok tt) (means self.old) (means self.new) }
         ensures waits { LetsWait write (queued self.old) (queued self.new) (room_for self.old) (memory self.old) (memory self.new) }
         ensures same { SamePlaces self.old self.new }
     {
@@ -137,20 +118,23 @@ impl Bench<'_> {
     }
 
     // The youngest write that waits for the sector.
-    fn youngest(&self, sector: u32) -> Option<PendingWrite>
+    pub(crate) fn youngest(&self, sector: u32) -> Option<PendingWrite>
         ensures { MatchOption result (NoneFor sector (queued self.now)) (λ w. (IsPayload w.bytes → Holds sector w.bytes (queued self.now))) }
     {
-        let mut k = self.pending.len();
-        while k > 0 {
-            k -= 1;
-            if let Some(write) = self.pending.get(k) {
-                if write.sector == sector {
-                    return Some(write);
-                }
-            }
+        let (older, younger) = self.pending.as_slices();
+        match last_to(younger, sector) {
+            Some(write) => Some(write),
+            None => last_to(older, sector),
         }
-        None
     }
+}
+
+// The youngest of these writes, oldest first, that is to the sector.
+fn last_to(writes: &[PendingWrite], sector: u32) -> Option<PendingWrite>
+    ensures { MatchOption result (Absent sector writes.now) (λ w. IsPayload w.bytes → Holds sector w.bytes writes.now) }
+{
+    let at = youngest_to(writes, sector)?;
+    Some(writes[at])
 }
 
 impl<'a> Device for Bench<'a> {
@@ -159,33 +143,24 @@ impl<'a> Device for Bench<'a> {
     ghost laws = { λ d. laws_waiting (queued d) (rows_mean (memory d)) (rows_laws (memory d)) };
 
     fn count(&self) -> u32 {
-        self.room()
+        self.rows.count()
     }
 
     fn is_on(&self) -> bool {
         true // always
     }
 
+    #[tactic(auto, unfolding(device::specs::Memory::held_by))]
     fn read(&mut self, sector: u32, into: &mut [u8; PAYLOAD]) -> Result<(), Fault>
         ensures rules { ReadCall sector into.old into.new result (means self.old) (means self.new) }
         ensures all { self.new ≡ self.old }
     {
-        if sector >= self.room() {
-            return Err(Fault::NoSector);
-        }
+        let row = self.rows.get(sector)?;
         match self.youngest(sector) {
-            Some(write) => {
-                write.copy_to(into);
-                Ok(())
-            }
-            None => {
-                if self.copy_out(sector, into) {
-                    Ok(())
-                } else {
-                    Err(Fault::Torn)
-                }
-            }
+            Some(write) => write.copy_to(into),
+            None => into.copy_from_slice(payload_of(row)?),
         }
+        Ok(())
     }
 
     fn write(&mut self, sector: u32, bytes: &[u8; PAYLOAD]) -> Result<(), Fault>
@@ -193,9 +168,7 @@ impl<'a> Device for Bench<'a> {
         ensures waits { WaitsAfter sector bytes.now result (queued self.old) (queued self.new) (room_for self.old) (memory self.old) (memory self.new) }
         ensures same { SamePlaces self.old self.new }
     {
-        if sector >= self.room() {
-            return Err(Fault::NoSector);
-        }
+        self.rows.get(sector)?;
         let bytes = *bytes;
         self.let_wait(PendingWrite { sector, bytes });
         Ok(())

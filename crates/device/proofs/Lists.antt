@@ -1,13 +1,13 @@
 -- The bytes that wait for one sector, as writes join, leave and are replaced.
 -- Assumes nothing.
-use Rattle.std.proofs.Common.{◌≡◌, ℕ, ◌+◌, ◌<◌, ◌≤◌, ◌&&◌, eqb, ltb, ◌⊎◌, List, [], ◌∷◌, ◌++◌, length, drop, sym, refl, ap, ◌∙◌, subst, inl, inr, arith}
+use Rattle.std.proofs.Common.{◌≡◌, ℕ, zero, suc, ◌+◌, ◌<◌, ◌≤◌, ◌&&◌, eqb, ltb, ◌⊎◌, List, [], ◌∷◌, ◌++◌, length, drop, sym, refl, ap, ◌∙◌, subst, inl, inr, arith}
 use Rattle.std.proofs.lemmas.List.{drop_more, drop_all}
 use Rattle.std.proofs.lemmas.Bool.{cases_Bool, cases_eq, and_from, and_right, eq-eqb, ne_eqb, lt-ltb, le-ltb, cond-true, cond-false}
 use Rattle.device.specs.declared.pending.PendingWrite.{PendingWrite}
 use Rattle.device.specs.Sector.{Content, torn}
 use Rattle.device.specs.Bytes.{content}
 use Rattle.device.specs.Queues.{At}
-use Rattle.device.specs.Waiting.{waiting_at, youngest, OneOf, MayLeave, Absent, NoneFor}
+use Rattle.device.specs.Waiting.{waiting_at, youngest, OneOf, MayLeave, Absent, NoneFrom, NoneFor}
 
 module _ (n : ℕ) (w : PendingWrite) (ws : List PendingWrite) (s : ℕ) where
   pub first_here : w.sector ≡ s → s < n → waiting_at n (w ∷ ws) s ≡ w.bytes ∷ waiting_at n ws s
@@ -36,6 +36,17 @@ absent_waiting s (w ∷ ws) h n = first_there n w ws s h.0 ∙ absent_waiting s 
 pub absent_past : (s : ℕ) (ws : List PendingWrite) (n : ℕ) → length ws ≤ n → Absent s (drop n ws)
 absent_past s ws n h = subst (Absent s) (sym (drop_all n ws h)) tt
 
+-- what no place has from k on is absent from there on
+pub absent_from : (s : ℕ) (ws : List PendingWrite) (k : ℕ) → NoneFrom s ws k → Absent s (drop k ws)
+absent_from s [] zero h = tt
+absent_from s [] (suc k) h = tt
+absent_from s (w ∷ ws) zero h = (h 0 w (omega arith) (omega arith), absent_from s ws zero (λ i d l m. h (suc i) d (omega arith) (omega arith)))
+absent_from s (w ∷ ws) (suc k) h = absent_from s ws k (λ i d l m. h (suc i) d (omega arith) (omega arith))
+
+pub absent_append : (s : ℕ) (xs ys : List PendingWrite) → Absent s xs → Absent s ys → Absent s (xs ++ ys)
+absent_append s [] ys g h = h
+absent_append s (x ∷ xs) ys g h = (g.0, absent_append s xs ys g.1 h)
+
 -- those from place j on, where w stands
 pub from_place : (ws : List PendingWrite) (j k : ℕ) (w : PendingWrite) → k ≡ j + 1 → At ws j w → drop j ws ≡ w ∷ drop k ws
 from_place ws j k w e h = drop_more ws j w h.0 ∙ ap (λ (v : PendingWrite). v ∷ drop (j + 1) ws) (h.1 w) ∙ ap (λ (i : ℕ). w ∷ drop i ws) (sym e)
@@ -54,6 +65,10 @@ waiting_append n (x ∷ xs) ys s = elim (cases_Bool (eqb x.sector s && ltb s n))
 pub youngest_last : (bs : List (List ℕ)) (b : List ℕ) (c : Content) → youngest (bs ++ b ∷ []) c ≡ content b
 youngest_last [] b c = refl
 youngest_last (x ∷ bs) b c = youngest_last bs b (content x)
+
+pub youngest_append : (bs cs : List (List ℕ)) (c : Content) → youngest (bs ++ cs) c ≡ youngest cs (youngest bs c)
+youngest_append [] cs c = refl
+youngest_append (b ∷ bs) cs c = youngest_append bs cs (content b)
 
 one_last : (bs : List (List ℕ)) (b : List ℕ) (c : Content) → OneOf (bs ++ b ∷ []) c → OneOf bs c ⊎ (c ≡ content b)
 one_last [] b c (inl e) = inr e

@@ -1,6 +1,6 @@
 -- Writes that wait in front of a device, oldest first: what each sector then holds, and what a cut may leave there.
 -- Assumes nothing.
-use Rattle.std.specs.Prelude.{◌≡◌, ℕ, ◌<◌, false, cond, ◌&&◌, ◌⊎◌, List, [], ◌∷◌, length, drop, ◌==◌, ◌≢◌, nat_lt, refl}
+use Rattle.std.specs.Prelude.{◌≡◌, ℕ, ◌+◌, ◌<◌, ◌≤◌, false, cond, ◌&&◌, ◌⊎◌, List, [], ◌∷◌, length, drop, ◌==◌, ◌≢◌, nat_lt, slice_index_or, refl}
 use Rattle.std.proofs.Common.{sym, subst, inl, inr, arith}
 use Rattle.device.specs.declared.pending.PendingWrite.{PendingWrite}
 use Rattle.device.specs.Sector.{Content, payload, torn, Image, Possible, Found, Lawful}
@@ -38,6 +38,14 @@ may n ws p s = MayLeave (waiting_at n ws s) (p s)
 abbrev pub Absent : ℕ → List PendingWrite → Type 0
 Absent s [] = Unit {0}
 Absent s (w ∷ ws) = (w.sector ≢ s) × Absent s ws
+
+-- no write at place k of ws or later is to sector s
+abbrev pub NoneFrom : ℕ → List PendingWrite → ℕ → Type 0
+NoneFrom s ws k = (i : ℕ) (d : PendingWrite) → k ≤ i → i < length ws → (slice_index_or ws i d).sector ≢ s
+
+-- the youngest write to sector s stands at place k
+abbrev pub YoungestAt : ℕ → List PendingWrite → ℕ → Type 0
+YoungestAt s ws k = (k < length ws) × ((d : PendingWrite) → (slice_index_or ws k d).sector ≡ s) × NoneFrom s ws (k + 1)
 
 -- nothing waits for sector s, in a device of any count
 abbrev pub NoneFor : ℕ → List PendingWrite → Type 0

@@ -14,7 +14,7 @@ mod rows;
 pub use durable::write_both;
 pub use fault::Fault;
 pub use memory::MemoryError;
-pub use pending::{BLANK, PendingWrite};
+pub use pending::{BLANK, PendingWrite, youngest_to};
 pub use queue::Queue;
 pub use rows::Rows;
 

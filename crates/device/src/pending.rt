@@ -1,6 +1,7 @@
 //! A write that was accepted and is not in its place yet.
-ghost use Rattle.std.specs.Prelude.{◌≡◌};
+ghost use Rattle.std.specs.Prelude.{◌≡◌, MatchOption};
 ghost use Rattle.device.specs.Sector.{IsPayload};
+ghost use Rattle.device.specs.Waiting.{NoneFrom, YoungestAt};
 
 use crate::PAYLOAD;
 
@@ -27,3 +28,10 @@ pub const BLANK: PendingWrite = PendingWrite {
     sector: 0,
     bytes: [0; PAYLOAD],
 };
+
+/// Where the youngest of these writes, oldest first, stands that is to the sector.
+pub fn youngest_to(writes: &[PendingWrite], sector: u32) -> Option<usize>
+    ensures { MatchOption result (NoneFrom sector writes.now 0) (YoungestAt sector writes.now) }
+{
+    writes.iter().rposition(|write| write.sector == sector)
+}

@@ -15,8 +15,8 @@ pub returns-in-Err : goal.returns-in-Err
 returns-in-Err c =
     let full = c.in-Err.ensures.put in
     let q = c.put.ensures.pending in
-    let d = subst (λ (w : PendingWrite). MakesDurable w c.put_all.new.self.rows.now c.put.new.self.rows.now) full.0 c.put.ensures.memory in
-    let kept = subst (λ (z : Queue PendingWrite). Keeps (with_waiting (waiting z) (rows_mean c.args.self.now.rows.now)) (with_waiting (waiting c.put_all.new.self.pending) (rows_mean c.put_all.new.self.rows.now))) full.2 c.put_all.ensures.kept in
+    let d = subst (λ (w : PendingWrite). MakesDurable w c.put_all.new.self.rows.bytes.now c.put.new.self.rows.bytes.now) full.0 c.put.ensures.memory in
+    let kept = subst (λ (z : Queue PendingWrite). Keeps (with_waiting (waiting z) (rows_mean c.args.self.now.rows.bytes.now)) (with_waiting (waiting c.put_all.new.self.pending) (rows_mean c.put_all.new.self.rows.bytes.now))) full.2 c.put_all.ensures.kept in
     record {
       rules = λ _. lets_last c.args.write _ _ _ _ _ _ c.put_all.ensures.pending (ap waiting q) kept d;
       joined = λ h. let e = full.1 in absurd (omega arith);

@@ -14,13 +14,13 @@ returns-in-Some c =
     let taken = c.in-Some.ensures in
     let q = c.put.ensures.pending in
     let e = taken.taken ∙ ap (λ (z : Queue PendingWrite). w ∷ waiting z) (sym q) in
-    let d = subst (λ (z : List ℕ). MakesDurable w z c.put.new.self.rows.now) (ap (λ x. x.now) taken.rows) c.put.ensures.memory in
+    let d = subst (λ (z : List ℕ). MakesDurable w z c.put.new.self.rows.bytes.now) (ap (λ x. x.bytes.now) taken.rows) c.put.ensures.memory in
     record {
       memory = full_stored w _ _ _ _ e d (omega (arith, c.len.ensures));
       kept = oldest_keeps w _ _ _ _ e d;
       pending = full_gone w _ _ _ _ e d (omega (arith, c.len.ensures));
       same = record {
-        rows = c.put.ensures.same ∙ ap (λ x. x.ghost_name) taken.rows;
+        rows = c.put.ensures.same ∙ ap (λ x. x.bytes.ghost_name) taken.rows;
         slots = ap (λ (z : Queue PendingWrite). z.slots.ghost_name) q ∙ taken.slots;
         room = ap places q ∙ taken.places;
       };

@@ -16,11 +16,11 @@ loop-oldest-preserved c =
     let q = c.put.ensures.pending in
     let inv = c.loop-oldest.invariant in
     let e = taken.taken ∙ ap (λ (z : Queue PendingWrite). w ∷ waiting z) (sym q) in
-    let d = subst (λ (z : List ℕ). MakesDurable w z c.put.new.self.rows.now) (ap (λ x. x.now) taken.rows) c.put.ensures.memory in (
+    let d = subst (λ (z : List ℕ). MakesDurable w z c.put.new.self.rows.bytes.now) (ap (λ x. x.bytes.now) taken.rows) c.put.ensures.memory in (
       all_stored w _ _ _ _ e d ∙ inv.0,
       keeps_then _ _ _ inv.1 (oldest_keeps w _ _ _ _ e d),
       ap places q ∙ taken.places ∙ inv.2,
-      c.put.ensures.same ∙ ap (λ x. x.ghost_name) taken.rows ∙ inv.3,
+      c.put.ensures.same ∙ ap (λ x. x.bytes.ghost_name) taken.rows ∙ inv.3,
       ap (λ (z : Queue PendingWrite). z.slots.ghost_name) q ∙ taken.slots ∙ inv.4,
     )
 
@@ -28,11 +28,11 @@ pub returns : goal.returns
 returns c =
     let taken = c.in_default.ensures in
     let inv = c.loop-oldest.invariant in
-    let all = all_flushed _ _ _ _ _ _ (ap (λ x. x.now) taken.rows) taken.taken taken.empty inv.0 inv.1 in
+    let all = all_flushed _ _ _ _ _ _ (ap (λ x. x.bytes.now) taken.rows) taken.taken taken.empty inv.0 inv.1 in
     record {
       memory = all.0;
       kept = all.1;
       rules = all.2;
       pending = taken.empty;
-      same = record { rows = ap (λ x. x.ghost_name) taken.rows ∙ inv.3; slots = taken.slots ∙ inv.4; room = taken.places ∙ inv.2 };
+      same = record { rows = ap (λ x. x.bytes.ghost_name) taken.rows ∙ inv.3; slots = taken.slots ∙ inv.4; room = taken.places ∙ inv.2 };
     }

@@ -9,10 +9,10 @@ use Rattle.bench.proofs.bench.Bench.put_all.Given as goal
 
 abbrev pub invariant-loop-oldest : goal.invariant-loop-oldest
 invariant-loop-oldest l =
-    (stored_all (waiting l.self.pending) l.self.rows.now ≡ stored_all (waiting l.initial.self.pending) l.initial.self.rows.now)
-    × Keeps (with_waiting (waiting l.initial.self.pending) (rows_mean l.initial.self.rows.now)) (with_waiting (waiting l.self.pending) (rows_mean l.self.rows.now))
+    (stored_all (waiting l.self.pending) l.self.rows.bytes.now ≡ stored_all (waiting l.initial.self.pending) l.initial.self.rows.bytes.now)
+    × Keeps (with_waiting (waiting l.initial.self.pending) (rows_mean l.initial.self.rows.bytes.now)) (with_waiting (waiting l.self.pending) (rows_mean l.self.rows.bytes.now))
     × (places l.self.pending ≡ places l.initial.self.pending)
-    × (l.self.rows.ghost_name ≡ l.initial.self.rows.ghost_name)
+    × (l.self.rows.bytes.ghost_name ≡ l.initial.self.rows.bytes.ghost_name)
     × (l.self.pending.slots.ghost_name ≡ l.initial.self.pending.slots.ghost_name)
 
 abbrev pub decreases-loop-oldest : goal.decreases-loop-oldest

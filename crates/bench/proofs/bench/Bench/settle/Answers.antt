@@ -1,43 +1,45 @@
--- One write after another is settled, and then nothing waits.
+-- One sector after another is settled, and then nothing waits.
 -- Assumes nothing.
-use Rattle.std.proofs.Common.{◌≤◌, length, refl, ap, ◌∙◌, subst, arith}
+use Rattle.std.proofs.Common.{ℕ, length, get_or, ap, ◌∙◌, subst, arith}
 use Rattle.device.specs.declared.pending.PendingWrite.{PendingWrite}
 use Rattle.device.specs.declared.queue.Queue.{Queue}
 use Rattle.device.specs.Queues.{waiting, places}
+use Rattle.bench.specs.Benches.{memory, queued}
 use Rattle.bench.specs.Settling.{SettlesAt}
-use Rattle.bench.proofs.Settled.{settles_none, settles_next, settles_all, settled_current, settled_only, settled_found, reaches}
+use Rattle.bench.proofs.Settled.{one_more_before, all_settled, settled_current, settled_only, settled_found, reaches}
 use Rattle.bench.proofs.bench.Bench.settle.Goals as goal
 
-pub loop-k-init : goal.loop-k-init
-loop-k-init c = (refl, c.len-k-end.ensures.count, refl, settles_none c.args.numbers.now (waiting c.args.self.now.pending) c.args.self.now.rows.now)
-
-pub loop-k-preserved : goal.loop-k-preserved
-loop-k-preserved c =
-    let inv = c.loop-k.invariant in (
-      c.settle_one.ensures.pending ∙ inv.0,
-      inv.1,
-      c.settle_one.ensures.same ∙ inv.2,
-      settles_next c.args.numbers.now (waiting c.args.self.now.pending) c.loop-k.k _ _ _ (let e = inv.1 in omega arith) inv.3
-          (subst (λ (q : Queue PendingWrite). SettlesAt c.args.numbers.now c.loop-k.k (waiting q) c.loop-k.self.rows.now c.settle_one.new.self.rows.now) inv.0 c.settle_one.ensures.settled),
-    )
+pub loop-sector-preserved : goal.loop-sector-preserved
+loop-sector-preserved c =
+    let inv = c.loop-sector.invariant in
+    let m = memory c.args.self.now in
+    record {
+      pending = c.settle_sector.ensures.pending ∙ inv.pending;
+      count = inv.count;
+      same = c.settle_sector.ensures.same ∙ inv.same;
+      settled = one_more_before c.loop-sector.sector c.args.numbers.now (queued c.args.self.now) m _ _ (let e = inv.count in omega arith) inv.settled
+          (subst (λ (q : Queue PendingWrite). SettlesAt (get_or c.args.numbers.now c.loop-sector.sector 0) c.loop-sector.sector (waiting q) (memory c.loop-sector.self) (memory c.settle_sector.new.self)) inv.pending
+          (subst (λ (k : ℕ). SettlesAt k c.loop-sector.sector (queued c.loop-sector.self) (memory c.loop-sector.self) (memory c.settle_sector.new.self)) c.number_for.ensures c.settle_sector.ensures.settled));
+    }
 
 pub returns : goal.returns
 returns c =
-    let inv = c.loop-k.invariant in
+    let inv = c.loop-sector.invariant in
     let cs = c.args.numbers.now in
-    let ws = waiting c.args.self.now.pending in
-    let done : length ws ≤ c.loop-k.k = let e = inv.1 in omega arith in
+    let ws = queued c.args.self.now in
+    let m = memory c.args.self.now in
     let empty = c.clear.ensures.empty in
+    let all = all_settled c.loop-sector.sector cs ws m _ (let e = inv.count in omega arith) inv.settled in
     record {
-      settles = settles_all cs ws _ c.loop-k.k _ _ done empty inv.3;
-      current = settled_current cs ws _ c.loop-k.k _ _ done empty inv.3;
-      only = settled_only cs ws _ c.loop-k.k _ _ done empty inv.3;
-      found = settled_found cs ws _ c.loop-k.k _ _ done empty inv.3;
-      reaches = reaches ws _;
+      settles = all;
+      current = settled_current cs ws _ m _ empty all;
+      only = settled_only cs ws _ m _ empty all;
+      found = settled_found cs ws _ m _ empty all;
+      reaches = reaches ws m;
       pending = empty;
       same = record {
-        rows = inv.2;
-        slots = c.clear.ensures.same ∙ ap (λ (q : Queue PendingWrite). q.slots.ghost_name) inv.0;
-        room = ap length c.clear.ensures.untouched ∙ ap places inv.0;
+        rows = inv.same;
+        slots = c.clear.ensures.same ∙ ap (λ (q : Queue PendingWrite). q.slots.ghost_name) inv.pending;
+        room = ap length c.clear.ensures.untouched ∙ ap places inv.pending;
       };
     }

@@ -1,23 +1,19 @@
 //! What a survey refuses.
-use media::RowImage;
+use media::{ROW, RowImage};
 use std::test::Fail;
 use survey::{Condition, ImageError, LONGEST, SECTORS, SurveyError, survey, survey_image};
-
-const W: Condition = Condition::Written;
-
-const T: Condition = Condition::Torn;
 
 #[test]
 fn surveys_are_refused(rt: HostRuntime) -> Result<(), Fail> {
     let heap = rt.alloc();
-    let mut memory = [0u8; 192];
-    let mut table = [W; 2];
+    let mut memory = [0u8; 3 * ROW];
+    let mut table = [Condition::Written; 2];
     let mut card = RowImage::new(&mut memory)?;
     assert_eq!(rt; survey(&mut card, &mut table), Err(SurveyError::ShortTable));
-    assert!(rt; table[0] == W && table[1] == W);
-    let mut rows = [T; SECTORS];
+    assert_eq!(rt; table, [Condition::Written; 2]);
+    let mut rows = [Condition::Torn; SECTORS];
     let part = vec![in heap; 0u8; 100]?;
-    let long = vec![in heap; 0u8; LONGEST + 64]?;
+    let long = vec![in heap; 0u8; LONGEST + ROW]?;
     assert_eq!(rt;
         survey_image(part, &mut rows),
         Err(ImageError::NotWholeRows)

@@ -1,43 +1,44 @@
 //! Settling a bench in every way, and what a bench is refused for.
-use crate::cards::{Row, is_laid, lay};
-use bench::{Bench, WAITING};
-use device::{BLANK, Device};
+use crate::cards::Row::{self, Readable, Torn};
+use bench::{Bench, ROW, WAITING};
+use device::{BLANK, Device, MemoryError, PAYLOAD};
+use std::process::Abort;
 use std::test::Fail;
 
 // Three sectors before any write.
-const OLD: [Row; 3] = [(10, 0), (20, 0), (30, 0)];
+const OLD: [Row; 3] = [Readable(10), Readable(20), Readable(30)];
 
-// Two writes to sector 0, one to sector 1 and none to sector 2.
+// Two writes to sector 0, one to sector 1 and none to sector 2: to this sector, sixty times this byte.
 const WRITES: [(u32, u8); 3] = [(0, 11), (1, 21), (0, 12)];
 
-// What each number, from 0, then leaves in sector 0: 0 what is durable, 1 and 2 the writes, 9 it torn.
-const FIRST: [Row; 11] = [
-    (10, 0),
-    (11, 0),
-    (12, 0),
-    (10, 0),
-    (10, 0),
-    (10, 0),
-    (10, 0),
-    (10, 0),
-    (10, 0),
-    (10, 1),
-    (10, 0),
+// What each number then leaves in sector 0: 0 what is durable, 1 and 2 the writes, 9 it torn.
+const FIRST: [(u8, Row); 11] = [
+    (0, Readable(10)),
+    (1, Readable(11)),
+    (2, Readable(12)),
+    (3, Readable(10)),
+    (4, Readable(10)),
+    (5, Readable(10)),
+    (6, Readable(10)),
+    (7, Readable(10)),
+    (8, Readable(10)),
+    (9, Torn(10)),
+    (10, Readable(10)),
 ];
 
 // What each number leaves in sector 1.
-const SECOND: [Row; 11] = [
-    (20, 0),
-    (21, 0),
-    (20, 0),
-    (20, 0),
-    (20, 0),
-    (20, 0),
-    (20, 0),
-    (20, 0),
-    (20, 0),
-    (20, 1),
-    (20, 0),
+const SECOND: [(u8, Row); 11] = [
+    (0, Readable(20)),
+    (1, Readable(21)),
+    (2, Readable(20)),
+    (3, Readable(20)),
+    (4, Readable(20)),
+    (5, Readable(20)),
+    (6, Readable(20)),
+    (7, Readable(20)),
+    (8, Readable(20)),
+    (9, Torn(20)),
+    (10, Readable(20)),
 ];
 
 // More writes to sector 0 than may wait: the first becomes durable before the ninth.
@@ -53,106 +54,101 @@ const NINE: [(u32, u8); 9] = [
     (0, 9),
 ];
 
-// Writes to a bench of the three sectors, settles it, flushes it if told to, and tells whether its memory is then these rows.
-fn leaves(
+// Makes the writes on a bench of the three sectors, settles it, flushes it if told to, and holds its memory to these rows.
+fn check(
+    rt: &impl Abort,
     writes: &[(u32, u8)],
     numbers: &[u8],
     flushed: bool,
-    rows: &[Row; 3],
-) -> Result<bool, Fail> {
-    let mut memory = [0u8; 183];
+    rows: [Row; 3],
+) -> Result<(), Fail> {
+    let mut memory = OLD.map(Row::bytes);
     let mut slots = [BLANK; WAITING];
-    lay(&mut memory, &OLD);
-    let mut bench = Bench::new(&mut memory, &mut slots)?;
-    for i in 0..writes.len() {
-        bench.write(writes[i].0, &[writes[i].1; 60])?;
+    let mut bench = Bench::new(memory.as_flattened_mut(), &mut slots)?;
+    for (sector, fill) in writes {
+        bench.write(*sector, &[*fill; PAYLOAD])?;
     }
     bench.settle(numbers);
     if flushed {
         bench.flush()?;
     }
-    let (memory, _) = bench.into_parts();
-    Ok(is_laid(memory, rows))
+    let (left, _) = bench.into_parts();
+    assert_eq!(rt;
+        &*left,
+        rows.map(Row::bytes).as_flattened(),
+        "settled by {numbers:?}"
+    );
+    Ok(())
 }
 
 #[test]
 fn every_choice_is_found(rt: HostRuntime) -> Result<(), Fail> {
-    for first in 0..11u8 {
-        for second in 0..11u8 {
-            let rows = [FIRST[first as usize], SECOND[second as usize], OLD[2]];
-            let numbers = [first, second, 9];
-            assert!(rt; leaves(&WRITES, &numbers, false, &rows)?);
-            assert!(rt;
-                leaves(&WRITES, &numbers, true, &rows)?,
-                "nothing waits any more"
-            );
+    for (first, in_first) in FIRST {
+        for (second, in_second) in SECOND {
+            // where it is flushed, nothing waits any more
+            for flushed in [false, true] {
+                let rows = [in_first, in_second, OLD[2]];
+                check(&rt, &WRITES, &[first, second, 9], flushed, rows)?;
+            }
         }
     }
     Ok(())
 }
 
-// Fewer and more numbers than sectors: those that count, and what they leave. A missing one counts as 0.
-const COUNTS: [([u8; 5], usize, [Row; 3]); 5] = [
-    ([1, 1, 1, 1, 1], 0, [(10, 0), (20, 0), (30, 0)]),
-    ([2, 1, 1, 1, 1], 1, [(12, 0), (20, 0), (30, 0)]),
-    ([9, 1, 1, 1, 1], 1, [(10, 1), (20, 0), (30, 0)]),
-    ([0, 1, 1, 1, 1], 2, [(10, 0), (21, 0), (30, 0)]),
-    ([255, 1, 9, 9, 1], 5, [(10, 0), (21, 0), (30, 0)]),
+// Fewer and more numbers than sectors, and what they leave. A missing one counts as 0.
+const COUNTS: [(&[u8], [Row; 3]); 5] = [
+    (&[], [Readable(10), Readable(20), Readable(30)]),
+    (&[2], [Readable(12), Readable(20), Readable(30)]),
+    (&[9], [Torn(10), Readable(20), Readable(30)]),
+    (&[0, 1], [Readable(10), Readable(21), Readable(30)]),
+    (
+        &[255, 1, 9, 9, 1],
+        [Readable(10), Readable(21), Readable(30)],
+    ),
 ];
 
 #[test]
 fn numbers_may_be_missing(rt: HostRuntime) -> Result<(), Fail> {
-    for (numbers, count, rows) in COUNTS {
-        assert!(rt; leaves(&WRITES, &numbers[0..count.min(5)], false, &rows)?);
+    for (numbers, rows) in COUNTS {
+        check(&rt, &WRITES, numbers, false, rows)?;
     }
     Ok(())
 }
 
-// How many of the nine writes to sector 0 are made, a number, and what it leaves there.
-const OF_NINE: [(usize, u8, Row); 8] = [
-    (8, 0, (10, 0)),
-    (8, 1, (1, 0)),
-    (8, 8, (8, 0)),
-    (8, 9, (10, 1)),
-    (9, 0, (1, 0)),
-    (9, 1, (2, 0)),
-    (9, 8, (9, 0)),
-    (9, 9, (1, 1)),
+// What each number leaves in sector 0 after the first eight of the nine writes, and after all of them.
+const OF_EIGHT: [(u8, Row); 4] = [
+    (0, Readable(10)),
+    (1, Readable(1)),
+    (8, Readable(8)),
+    (9, Torn(10)),
+];
+
+const OF_NINE: [(u8, Row); 4] = [
+    (0, Readable(1)),
+    (1, Readable(2)),
+    (8, Readable(9)),
+    (9, Torn(1)),
 ];
 
 #[test]
 fn a_ninth_write_makes_the_first_durable(rt: HostRuntime) -> Result<(), Fail> {
-    for (writes, number, row) in OF_NINE {
-        let rows = [row, OLD[1], OLD[2]];
-        assert!(rt; leaves(&NINE[0..writes.min(9)], &[number], false, &rows)?);
+    for (writes, cases) in [(&NINE[..8], OF_EIGHT), (&NINE[..], OF_NINE)] {
+        for (number, row) in cases {
+            check(&rt, writes, &[number], false, [row, OLD[1], OLD[2]])?;
+        }
     }
     Ok(())
 }
 
-// Bytes of memory, places, and the number that a bench over them is refused with, or 0.
-const REFUSALS: [(usize, usize, u8); 7] = [
-    (0, 8, 0),
-    (0, 7, 18),
-    (60, 8, 18),
-    (61, 8, 0),
-    (61, 7, 18),
-    (61, 9, 0),
-    (62, 8, 18),
-];
-
-// The number that so much memory and so many places are refused with, or 0.
-fn refusal(bytes: usize, places: usize) -> u8 {
-    let mut memory = [0u8; 62];
-    let mut slots = [BLANK; 9];
-    match Bench::new(&mut memory[0..bytes.min(62)], &mut slots[0..places.min(9)]) {
-        Ok(_) => 0,
-        Err(error) => error.number(),
-    }
-}
-
 #[test]
 fn memory_is_whole_rows_and_places_are_eight(rt: HostRuntime) {
-    for (bytes, places, number) in REFUSALS {
-        assert_eq!(rt; refusal(bytes, places), number);
-    }
+    let few = Some(MemoryError::FewPlaces);
+    let part = Some(MemoryError::NotWholeRows);
+    assert_eq!(rt; Bench::new(&mut [], &mut [BLANK; 8]).err(), None);
+    assert_eq!(rt; Bench::new(&mut [], &mut [BLANK; 7]).err(), few);
+    assert_eq!(rt; Bench::new(&mut [0; ROW - 1], &mut [BLANK; 8]).err(), part);
+    assert_eq!(rt; Bench::new(&mut [0; ROW], &mut [BLANK; 8]).err(), None);
+    assert_eq!(rt; Bench::new(&mut [0; ROW], &mut [BLANK; 7]).err(), few);
+    assert_eq!(rt; Bench::new(&mut [0; ROW], &mut [BLANK; 9]).err(), None);
+    assert_eq!(rt; Bench::new(&mut [0; ROW + 1], &mut [BLANK; 8]).err(), part);
 }

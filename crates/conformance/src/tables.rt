@@ -1,18 +1,20 @@
 //! One table of calls and what they have to answer, run over every device.
+use Step::{Flush, Read, Write};
 use bench::{Bench, WAITING};
 use cache::Cache;
-use device::{BLANK, Device, Fault};
+use device::Fault::{self, NoSector, Torn};
+use device::{BLANK, Device, PAYLOAD};
 use media::RowImage;
 use std::test::Fail;
 use switch::{LastWrite, Switch};
 
-// A call and its answer: 0 if it is accepted, else the number of the fault.
+// A call and its answer, as a value: one table of them is run over devices of many types.
 #[derive(Clone, Copy)]
 enum Step {
-    // of this sector, with this answer; then the caller's sixty bytes are this one
-    Read(u32, u8, u8),
-    // to this sector, sixty times this byte, with this answer
-    Write(u32, u8, u8),
+    // of this sector, which gives sixty times the byte
+    Read(u32, Result<u8, Fault>),
+    // to this sector, sixty times this byte
+    Write(u32, u8, Result<(), Fault>),
     // which is accepted
     Flush,
 }
@@ -23,155 +25,149 @@ const LEFT: u8 = 0xee;
 // For a device of twelve sectors, each torn, with nothing waiting. After the flush 8 is the ninth sector that is written and 9 the
 // tenth; then 3, the first of them, is written again.
 const STEPS: [Step; 66] = [
-    Step::Read(0, 3, LEFT),
-    Step::Read(11, 3, LEFT),
-    Step::Read(12, 2, LEFT),
-    Step::Read(u32::MAX, 2, LEFT),
-    Step::Write(12, 1, 2),
-    Step::Write(u32::MAX, 1, 2),
-    Step::Flush,
-    Step::Read(3, 3, LEFT),
-    Step::Write(3, 10, 0),
-    Step::Read(3, 0, 10),
-    Step::Write(3, 11, 0),
-    Step::Read(3, 0, 11),
-    Step::Write(4, 12, 0),
-    Step::Write(3, 13, 0),
-    Step::Read(3, 0, 13),
-    Step::Read(4, 0, 12),
-    Step::Read(5, 3, LEFT),
-    Step::Write(0, 20, 0),
-    Step::Write(1, 21, 0),
-    Step::Write(2, 22, 0),
-    Step::Write(5, 25, 0),
-    Step::Write(6, 26, 0),
-    Step::Write(7, 27, 0),
-    Step::Write(8, 28, 0),
-    Step::Read(3, 0, 13),
-    Step::Write(9, 29, 0),
-    Step::Write(3, 33, 0),
-    Step::Write(7, 37, 0),
-    Step::Write(12, 1, 2),
-    Step::Write(10, 30, 0),
-    Step::Read(0, 0, 20),
-    Step::Read(1, 0, 21),
-    Step::Read(2, 0, 22),
-    Step::Read(3, 0, 33),
-    Step::Read(4, 0, 12),
-    Step::Read(5, 0, 25),
-    Step::Read(6, 0, 26),
-    Step::Read(7, 0, 37),
-    Step::Read(8, 0, 28),
-    Step::Read(9, 0, 29),
-    Step::Read(10, 0, 30),
-    Step::Read(11, 3, LEFT),
-    Step::Read(12, 2, LEFT),
-    Step::Flush,
-    Step::Read(0, 0, 20),
-    Step::Read(1, 0, 21),
-    Step::Read(2, 0, 22),
-    Step::Read(3, 0, 33),
-    Step::Read(4, 0, 12),
-    Step::Read(5, 0, 25),
-    Step::Read(6, 0, 26),
-    Step::Read(7, 0, 37),
-    Step::Read(8, 0, 28),
-    Step::Read(9, 0, 29),
-    Step::Read(10, 0, 30),
-    Step::Read(11, 3, LEFT),
-    Step::Write(11, 41, 0),
-    Step::Write(0, 40, 0),
-    Step::Write(12, 1, 2),
-    Step::Read(11, 0, 41),
-    Step::Flush,
-    Step::Flush,
-    Step::Read(0, 0, 40),
-    Step::Read(1, 0, 21),
-    Step::Read(11, 0, 41),
-    Step::Read(12, 2, LEFT),
+    Read(0, Err(Torn)),
+    Read(11, Err(Torn)),
+    Read(12, Err(NoSector)),
+    Read(u32::MAX, Err(NoSector)),
+    Write(12, 1, Err(NoSector)),
+    Write(u32::MAX, 1, Err(NoSector)),
+    Flush,
+    Read(3, Err(Torn)),
+    Write(3, 10, Ok(())),
+    Read(3, Ok(10)),
+    Write(3, 11, Ok(())),
+    Read(3, Ok(11)),
+    Write(4, 12, Ok(())),
+    Write(3, 13, Ok(())),
+    Read(3, Ok(13)),
+    Read(4, Ok(12)),
+    Read(5, Err(Torn)),
+    Write(0, 20, Ok(())),
+    Write(1, 21, Ok(())),
+    Write(2, 22, Ok(())),
+    Write(5, 25, Ok(())),
+    Write(6, 26, Ok(())),
+    Write(7, 27, Ok(())),
+    Write(8, 28, Ok(())),
+    Read(3, Ok(13)),
+    Write(9, 29, Ok(())),
+    Write(3, 33, Ok(())),
+    Write(7, 37, Ok(())),
+    Write(12, 1, Err(NoSector)),
+    Write(10, 30, Ok(())),
+    Read(0, Ok(20)),
+    Read(1, Ok(21)),
+    Read(2, Ok(22)),
+    Read(3, Ok(33)),
+    Read(4, Ok(12)),
+    Read(5, Ok(25)),
+    Read(6, Ok(26)),
+    Read(7, Ok(37)),
+    Read(8, Ok(28)),
+    Read(9, Ok(29)),
+    Read(10, Ok(30)),
+    Read(11, Err(Torn)),
+    Read(12, Err(NoSector)),
+    Flush,
+    Read(0, Ok(20)),
+    Read(1, Ok(21)),
+    Read(2, Ok(22)),
+    Read(3, Ok(33)),
+    Read(4, Ok(12)),
+    Read(5, Ok(25)),
+    Read(6, Ok(26)),
+    Read(7, Ok(37)),
+    Read(8, Ok(28)),
+    Read(9, Ok(29)),
+    Read(10, Ok(30)),
+    Read(11, Err(Torn)),
+    Write(11, 41, Ok(())),
+    Write(0, 40, Ok(())),
+    Write(12, 1, Err(NoSector)),
+    Read(11, Ok(41)),
+    Flush,
+    Flush,
+    Read(0, Ok(40)),
+    Read(1, Ok(21)),
+    Read(11, Ok(41)),
+    Read(12, Err(NoSector)),
 ];
 
-// 0 for an accepted call, else the number of the fault.
-fn number(answer: Result<(), Fault>) -> u8 {
-    match answer {
-        Ok(()) => 0,
-        Err(fault) => fault.number(),
-    }
-}
-
-// Whether the call answers as the step says.
-fn is_met<D: Device>(device: &mut D, step: Step) -> bool {
-    match step {
-        Step::Read(sector, answer, found) => {
-            let mut bytes = [LEFT; 60];
-            number(device.read(sector, &mut bytes)) == answer && bytes[0..60] == [found; 60][0..60]
+impl Step {
+    // Whether the device answers the call so.
+    fn is_met<D: Device>(self, device: &mut D) -> bool {
+        match self {
+            Read(sector, wanted) => {
+                let mut bytes = [LEFT; PAYLOAD];
+                let answer = device.read(sector, &mut bytes);
+                answer == wanted.map(|_| ()) && bytes == [wanted.unwrap_or(LEFT); PAYLOAD]
+            }
+            Write(sector, fill, wanted) => device.write(sector, &[fill; PAYLOAD]) == wanted,
+            Flush => device.flush() == Ok(()),
         }
-        Step::Write(sector, fill, answer) => number(device.write(sector, &[fill; 60])) == answer,
-        Step::Flush => number(device.flush()) == 0,
     }
 }
 
 // The index of the first step that is answered otherwise.
-fn first_wrong<D: Device>(device: &mut D, steps: &[Step]) -> Option<usize> {
-    for i in 0..steps.len() {
-        if !is_met(device, steps[i]) {
-            return Some(i);
-        }
-    }
-    None
+fn first_wrong<D: Device + Drop>(mut device: D) -> Option<usize> {
+    STEPS.iter().position(|step| !step.is_met(&mut device))
 }
 
-// What stands over a device. The switches never turn off.
-#[derive(Clone, Copy)]
-enum Above {
-    Nothing,
-    Cached,
-    Switched,
-    CachedAndSwitched,
+// These are generic over the lowest device, since a caller over borrowed memory that names the cache above it gets no proof yet.
+// The switches never turn off.
+fn wrong_when_cached<D: Device + Drop>(below: D) -> Option<usize> {
+    first_wrong(Cache::new(below))
 }
 
-const STACKS: [Above; 4] = [
-    Above::Nothing,
-    Above::Cached,
-    Above::Switched,
-    Above::CachedAndSwitched,
-];
-
-// The index of the first step that the stack answers otherwise.
-fn wrong_in<D: Device + Drop>(below: D, above: Above) -> Option<usize> {
-    match above {
-        Above::Nothing => {
-            let mut device = below;
-            first_wrong(&mut device, &STEPS)
-        }
-        Above::Cached => first_wrong(&mut Cache::new(below), &STEPS),
-        Above::Switched => first_wrong(&mut Switch::new(below, 0, LastWrite::Lost), &STEPS),
-        Above::CachedAndSwitched => {
-            let mut stack = Switch::new(Cache::new(below), 0, LastWrite::Reached);
-            first_wrong(&mut stack, &STEPS)
-        }
-    }
+fn wrong_when_switched<D: Device + Drop>(below: D) -> Option<usize> {
+    first_wrong(Switch::new(below, 0, LastWrite::Lost))
 }
+
+fn wrong_when_cached_and_switched<D: Device + Drop>(below: D) -> Option<usize> {
+    first_wrong(Switch::new(Cache::new(below), 0, LastWrite::Reached))
+}
+
+// The bytes of a row image of twelve sectors, torn while they are zero.
+const IMAGE: usize = 12 * media::ROW;
+
+// The bytes of a bench of twelve sectors, torn while they are 1.
+const BENCH: usize = 12 * bench::ROW;
 
 #[test]
 fn row_images_meet_the_table(rt: HostRuntime) -> Result<(), Fail> {
-    for above in STACKS {
-        let mut memory = [0u8; 768];
-        let image = RowImage::new(&mut memory)?;
-        assert!(rt; image.is_on() && image.count() == 12);
-        assert_eq!(rt; wrong_in(image, above), None);
-    }
+    let mut memory = [0; IMAGE];
+    let image = RowImage::new(&mut memory)?;
+    assert!(rt; image.is_on());
+    assert_eq!(rt; image.count(), 12);
+    assert_eq!(rt; first_wrong(image), None);
+    assert_eq!(rt; wrong_when_cached(RowImage::new(&mut [0; IMAGE])?), None);
+    assert_eq!(rt; wrong_when_switched(RowImage::new(&mut [0; IMAGE])?), None);
+    assert_eq!(rt;
+        wrong_when_cached_and_switched(RowImage::new(&mut [0; IMAGE])?),
+        None
+    );
     Ok(())
 }
 
 #[test]
 fn benches_meet_the_table(rt: HostRuntime) -> Result<(), Fail> {
-    for above in STACKS {
-        let mut memory = [1u8; 732];
-        let mut slots = [BLANK; WAITING];
-        let bench = Bench::new(&mut memory, &mut slots)?;
-        assert!(rt; bench.is_on() && bench.count() == 12);
-        assert_eq!(rt; wrong_in(bench, above), None);
-    }
+    let mut memory = [1; BENCH];
+    let mut slots = [BLANK; WAITING];
+    let bench = Bench::new(&mut memory, &mut slots)?;
+    assert!(rt; bench.is_on());
+    assert_eq!(rt; bench.count(), 12);
+    assert_eq!(rt; first_wrong(bench), None);
+    assert_eq!(rt;
+        wrong_when_cached(Bench::new(&mut [1; BENCH], &mut [BLANK; WAITING])?),
+        None
+    );
+    assert_eq!(rt;
+        wrong_when_switched(Bench::new(&mut [1; BENCH], &mut [BLANK; WAITING])?),
+        None
+    );
+    assert_eq!(rt;
+        wrong_when_cached_and_switched(Bench::new(&mut [1; BENCH], &mut [BLANK; WAITING])?),
+        None
+    );
     Ok(())
 }

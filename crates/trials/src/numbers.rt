@@ -2,14 +2,10 @@
 use device::Fault;
 
 #[test]
-fn faults_have_their_numbers(rt: HostRuntime) {
+fn refusals_have_their_numbers(rt: HostRuntime) {
     for (fault, number) in [(Fault::Off, 1), (Fault::NoSector, 2), (Fault::Torn, 3)] {
         assert_eq!(rt; fault.number(), number);
     }
-}
-
-#[test]
-fn refused_memory_has_one_number(rt: HostRuntime) {
     assert_eq!(rt; media::MemoryError::NotWholeRows.number(), 18);
     assert_eq!(rt; device::MemoryError::NotWholeRows.number(), 18);
     assert_eq!(rt; device::MemoryError::FewPlaces.number(), 18);

@@ -132,12 +132,10 @@ mod tests {
 
     #[test]
     fn byte_after_byte(rt: HostRuntime) {
-        let mut ascending = Crc32c::new();
-        let mut descending = Crc32c::new();
-        for i in 0..32 {
-            ascending = ascending.with(&[i]);
-            descending = descending.with(&[31 - i]);
-        }
+        let ascending = (0..32).fold(Crc32c::new(), |crc, byte| crc.with(&[byte]));
+        let descending = (0..32)
+            .rev()
+            .fold(Crc32c::new(), |crc, byte| crc.with(&[byte]));
         assert_eq!(rt; ascending.value(), 0x46DD_794E);
         assert_eq!(rt; descending.value(), 0x113F_DB5C);
     }

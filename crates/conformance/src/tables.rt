@@ -99,8 +99,8 @@ impl Step {
         match self {
             Read(sector, wanted) => {
                 let mut bytes = [LEFT; PAYLOAD];
-                let answer = device.read(sector, &mut bytes);
-                answer == wanted.map(|_| ()) && bytes == [wanted.unwrap_or(LEFT); PAYLOAD]
+                device.read(sector, &mut bytes).err() == wanted.err()
+                    && bytes == [wanted.unwrap_or(LEFT); PAYLOAD]
             }
             Write(sector, fill, wanted) => device.write(sector, &[fill; PAYLOAD]) == wanted,
             Flush => device.flush() == Ok(()),

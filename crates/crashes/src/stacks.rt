@@ -1,20 +1,18 @@
 //! Caches and switches over a bench: what is found on the bench when the power is cut above it.
-ghost use Rattle.std.specs.Prelude.{◌<◌};
-
 use Call::{Flush, Read, Write};
 use bench::{Bench, ROW, WAITING};
 use cache::Cache;
 use device::{BLANK, Device, Fault, PAYLOAD};
-use std::process::Abort;
 use std::test::Fail;
 use switch::{LastWrite, Switch};
 
 const SECTORS: usize = 9;
 
-const MEMORY: usize = SECTORS * ROW;
-
 // What a read of a sector gives: sixty times this byte, or why there are none.
 type Content = Result<u8, Fault>;
+
+// What the caller's bytes are before each read.
+const LEFT: u8 = 0xee;
 
 // Nine sectors before any write.
 const OLD: [Content; SECTORS] = [Ok(0); SECTORS];
@@ -88,9 +86,9 @@ const NUMBERS: [u8; 4] = [0, 1, 2, 9];
 
 // Whether a read of the sector gives this. A read that is refused leaves the caller's bytes.
 fn gives<D: Device>(device: &mut D, sector: u32, content: Content) -> bool {
-    let mut bytes = [0xee; PAYLOAD];
+    let mut bytes = [LEFT; PAYLOAD];
     device.read(sector, &mut bytes).err() == content.err()
-        && bytes == [content.unwrap_or(0xee); PAYLOAD]
+        && bytes == [content.unwrap_or(LEFT); PAYLOAD]
 }
 
 // Whether the sectors are found so.
@@ -102,18 +100,17 @@ fn are_found<D: Device>(device: &mut D, contents: [Content; SECTORS]) -> bool {
 
 // Whether every call is refused since the device is off, also for a sector that is not there.
 fn is_dead<D: Device>(device: &mut D) -> bool {
-    let off = Err(Fault::Off);
     gives(device, 0, Err(Fault::Off))
         && gives(device, 9, Err(Fault::Off))
-        && Write(0, 1).on(device) == off
-        && Write(9, 1).on(device) == off
-        && Flush.on(device) == off
+        && Write(0, 1).on(device) == Err(Fault::Off)
+        && Write(9, 1).on(device) == Err(Fault::Off)
+        && Flush.on(device) == Err(Fault::Off)
         && !device.is_on()
 }
 
 // What the number leaves on a bench below a cache that so many calls of the script reached. The tenth, a ninth sector, sends sector 0
 // on to the bench, where it waits; the next makes all last; and what is then written stays in the cache until the last.
-fn left_below(calls: usize, number: u8) -> [Content; SECTORS] {
+fn left_below(calls: u32, number: u8) -> [Content; SECTORS] {
     match calls {
         0..=9 => OLD,
         10 => first_waits(number),
@@ -133,99 +130,102 @@ fn first_waits(number: u8) -> [Content; SECTORS] {
     contents
 }
 
-// Makes the calls on a cache over the device, and gives the device back if all were accepted.
-fn cached<D: Device + Drop>(below: D, calls: &[Call]) -> Result<D, Fault> {
+// Makes the first calls of the script on a cache over the device, and gives the device back if all were accepted.
+fn cached<D: Device + Drop>(below: D, calls: u32) -> Option<D> {
     let mut cache = Cache::new(below);
-    for call in calls {
-        call.on(&mut cache)?;
+    for call in SCRIPT.iter().take(calls as usize) {
+        call.on(&mut cache).ok()?;
     }
-    Ok(cache.into_below())
+    Some(cache.into_below())
 }
 
 // Runs the script on a cache over the device, under a switch that turns off within the call after so many. Gives the device back if
 // each call was answered as it must be, and a write that was cut is in the cache just if it was to reach it.
-fn cut_after<D: Device + Drop>(
-    rt: &impl Abort,
-    below: D,
-    calls: usize,
-    last: LastWrite,
-) -> Result<D, Fault>
-    requires { calls < 15 }
-{
-    let mut stack = Switch::new(Cache::new(below), calls as u32 + 1, last);
-    for call in &SCRIPT[..calls] {
-        call.on(&mut stack)?;
-    }
-    for call in &SCRIPT[calls..] {
-        assert_eq!(rt; call.on(&mut stack), Err(Fault::Off));
-    }
-    assert!(rt; is_dead(&mut stack));
-    assert!(rt; !stack.is_switched_on());
-    let mut cache = stack.into_below();
-    if let Write(sector, fill) = SCRIPT[calls] {
-        let held = gives(&mut cache, sector, Ok(fill));
-        assert_eq!(rt; held, last == LastWrite::Reached);
-    }
-    Ok(cache.into_below())
-}
-
-#[test]
-fn caches_pass_on_what_they_must(rt: HostRuntime) -> Result<(), Fail> {
-    for calls in 0..=SCRIPT.len() {
-        for number in NUMBERS {
-            let mut memory = [0; MEMORY];
-            let mut slots = [BLANK; WAITING];
-            let bench = Bench::new(&mut memory, &mut slots)?;
-            let mut bench = cached(bench, &SCRIPT[..calls])?;
-            bench.settle(&[number; SECTORS]);
-            assert!(rt; are_found(&mut bench, left_below(calls, number)));
+fn cut_after<D: Device + Drop>(below: D, calls: u32, last: LastWrite) -> Option<D> {
+    let mut stack = Switch::new(Cache::new(below), calls.saturating_add(1), last);
+    for (at, call) in SCRIPT.iter().enumerate() {
+        let wanted = if at < calls as usize {
+            Ok(())
+        } else {
+            Err(Fault::Off)
+        };
+        if call.on(&mut stack) != wanted {
+            return None;
         }
     }
-    Ok(())
+    if !is_dead(&mut stack) || stack.is_switched_on() {
+        return None;
+    }
+    let mut cache = stack.into_below();
+    if let Some(Write(sector, fill)) = SCRIPT.get(calls as usize) {
+        if gives(&mut cache, *sector, Ok(*fill)) != (last == LastWrite::Reached) {
+            return None;
+        }
+    }
+    Some(cache.into_below())
 }
 
-// How many calls reach the cache where the one after so many is cut: a write that is cut may still reach it.
-fn reached(calls: usize, last: LastWrite) -> usize
-    requires { calls < 15 }
-{
-    match (SCRIPT[calls], last) {
-        (Write(_, _), LastWrite::Reached) => calls + 1,
+// How many calls reach the cache, with the one that is cut.
+fn reached(calls: u32, cut: Option<LastWrite>) -> u32 {
+    match (SCRIPT.get(calls as usize), cut) {
+        (Some(Write(_, _)), Some(LastWrite::Reached)) => calls.saturating_add(1),
         _ => calls,
     }
 }
 
+// Runs the first calls of the script over a bench, on a cache alone or under a switch that then cuts the next one. Tells whether they were
+// answered as they must be, and the number then leaves what it must.
+fn is_left(calls: u32, cut: Option<LastWrite>, number: u8) -> Result<bool, Fail> {
+    let mut memory = [0; SECTORS * ROW];
+    let mut slots = [BLANK; WAITING];
+    let bench = Bench::new(&mut memory, &mut slots)?;
+    let answered = match cut {
+        None => cached(bench, calls),
+        Some(last) => cut_after(bench, calls, last),
+    };
+    let Some(mut bench) = answered else {
+        return Ok(false);
+    };
+    bench.settle(&[number; SECTORS]);
+    Ok(are_found(&mut bench, left_below(reached(calls, cut), number)))
+}
+
 #[test]
-fn every_cut_leaves_what_it_may(rt: HostRuntime) -> Result<(), Fail> {
-    for calls in 0..SCRIPT.len() {
+fn caches_pass_on_what_they_must(rt: HostRuntime) -> Result<(), Fail> {
+    for calls in 0..16 {
         for number in NUMBERS {
-            for last in [LastWrite::Lost, LastWrite::Reached] {
-                let mut memory = [0; MEMORY];
-                let mut slots = [BLANK; WAITING];
-                let bench = Bench::new(&mut memory, &mut slots)?;
-                let mut bench = cut_after(&rt, bench, calls, last)?;
-                bench.settle(&[number; SECTORS]);
-                assert!(rt; are_found(&mut bench, left_below(reached(calls, last), number)));
-            }
+            assert!(rt; is_left(calls, None, number)?);
         }
     }
     Ok(())
 }
 
-// Holds a cache to be off once the device below is, though it holds a write. The switch turns off within its first call, which
-// comes with the cache's flush. It is generic, since a caller over borrowed memory that names the cache above it gets no proof yet.
-fn check_goes_off<D: Device + Drop>(rt: &impl Abort, below: D) {
+#[test]
+fn every_cut_leaves_what_it_may(rt: HostRuntime) -> Result<(), Fail> {
+    for calls in 0..15 {
+        for number in NUMBERS {
+            assert!(rt; is_left(calls, Some(LastWrite::Lost), number)?);
+            assert!(rt; is_left(calls, Some(LastWrite::Reached), number)?);
+        }
+    }
+    Ok(())
+}
+
+// Whether a cache is off once the device below is, though it holds a write. The switch turns off within its first call, which comes with
+// the cache's flush. It is generic, since a caller over borrowed memory that names the cache above it gets no proof yet.
+fn goes_off<D: Device + Drop>(below: D) -> bool {
     let mut cache = Cache::new(Switch::new(below, 1, LastWrite::Lost));
-    assert_eq!(rt; Write(9, 1).on(&mut cache), Err(Fault::NoSector));
-    assert_eq!(rt; Write(0, 1).on(&mut cache), Ok(()));
-    assert!(rt; gives(&mut cache, 0, Ok(1)));
-    assert_eq!(rt; Flush.on(&mut cache), Err(Fault::Off));
-    assert!(rt; is_dead(&mut cache));
+    Write(9, 1).on(&mut cache) == Err(Fault::NoSector)
+        && Write(0, 1).on(&mut cache) == Ok(())
+        && gives(&mut cache, 0, Ok(1))
+        && Flush.on(&mut cache) == Err(Fault::Off)
+        && is_dead(&mut cache)
 }
 
 #[test]
 fn a_cache_is_off_with_the_device_below(rt: HostRuntime) -> Result<(), Fail> {
-    let mut memory = [0; MEMORY];
+    let mut memory = [0; SECTORS * ROW];
     let mut slots = [BLANK; WAITING];
-    check_goes_off(&rt, Bench::new(&mut memory, &mut slots)?);
+    assert!(rt; goes_off(Bench::new(&mut memory, &mut slots)?));
     Ok(())
 }

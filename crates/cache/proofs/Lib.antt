@@ -1,4 +1,3 @@
-pub mod Moves
 pub mod Absences
 pub mod Passing
 pub mod Holding

@@ -1,7 +1,9 @@
 -- What a cache holds: written sectors that the device below does not have yet, the one held longest first.
 -- Assumes nothing.
-use Rattle.std.specs.Prelude.{◌≡◌, ℕ, ◌<◌, ◌≤◌, true, ◌⊎◌, List, [], ◌∷◌, ◌++◌, length, Ok, Err}
-use Rattle.device.specs.declared.fault.Fault.TheVariants.{Off}
+use Rattle.std.specs.Prelude.{◌≡◌, ℕ, ◌<◌, ◌≤◌, true, false, ◌⊎◌, List, [], ◌∷◌, ◌++◌, length, Ok, Err}
+use Rattle.std.specs.Coded.{×_prop, →_prop, Unit-prop}
+use Rattle.device.specs.declared.fault.Fault.{Fault}
+use Rattle.device.specs.declared.fault.Fault.TheVariants.{Off, NoSector, Torn}
 use Rattle.device.specs.declared.pending.PendingWrite.{PendingWrite}
 use Rattle.device.specs.Faults.{Answer}
 use Rattle.device.specs.Sector.{IsPayload}
@@ -12,6 +14,15 @@ use Rattle.device.specs.Waiting.{Absent, room_in, with_waiting, Keeps, Cut, Unto
 abbrev pub Distinct : List PendingWrite → Type 0
 Distinct [] = Unit {0}
 Distinct (w ∷ ws) = Absent w.sector ws × Distinct ws
+
+absent_prop : (s : ℕ) (ws : List PendingWrite) → IsProp (Absent s ws)
+absent_prop s [] = Unit-prop
+absent_prop s (w ∷ ws) = ×_prop (→_prop (λ x y. absurd x)) (absent_prop s ws)
+
+-- there is one proof of it at most, as a ghost field wants
+pub Distinct-prop : (ws : List PendingWrite) → IsProp (Distinct ws)
+Distinct-prop [] = Unit-prop
+Distinct-prop (w ∷ ws) = ×_prop (absent_prop w.sector ws) (Distinct-prop ws)
 
 -- w takes the place of a write to its sector, the youngest one
 pub record Replaced (w : PendingWrite) (ws ws' : List PendingWrite) : Type 0 where
@@ -47,6 +58,12 @@ HeldAfter s b (Err _) ws ws' = ws' ≡ ws
 abbrev pub HeldAfterFlush : Answer → List PendingWrite → List PendingWrite → Type 0
 HeldAfterFlush (Ok _) ws ws' = ws' ≡ []
 HeldAfterFlush (Err _) ws ws' = ws' ≡ ws
+
+-- why a device that means m turns away a call that names sector s: it is off, or else it does not have the sector
+abbrev pub TurnsAway : ℕ → Meaning → Fault → Type 0
+TurnsAway s m Off = m.on ≡ false
+TurnsAway s m NoSector = (m.on ≡ true) × (m.count ≤ s)
+TurnsAway s m Torn = ⊥
 
 -- The write w is passed on to the device below, which means m before and m' after, or dropped if that does not have the sector.
 pub record Passed (w : PendingWrite) (r : Answer) (m m' : Meaning) : Type 0 where

@@ -1,36 +1,36 @@
 //! A write-back cache over any device: it holds up to eight written sectors and passes them on when it must.
 #![tactic(auto)]
 
-ghost use Rattle.std.specs.Prelude.{◌≡◌, ◌<◌, true, ◌⊎◌, [], length};
-ghost use Rattle.std.proofs.Common.{inl};
+ghost use Rattle.std.specs.Prelude.{◌≡◌, ◌<◌, ◌≤◌, true, ◌⊎◌, [], length, MatchOption, MatchResult};
 ghost use Rattle.device.specs.Rules.{ReadCall, WriteCall, FlushCall};
 ghost use Rattle.device.specs.Waiting.{Absent, with_waiting, laws_waiting};
-ghost use Rattle.cache.specs.Held.{Distinct, Passed, MakesRoom, PassesAll, HeldAfter, HeldAfterFlush};
-ghost use Rattle.cache.specs.Listed.{listed};
+ghost use Rattle.cache.specs.Held.{Distinct, Distinct-prop, Place, Passed, MakesRoom, PassesAll, TurnsAway, HeldAfter, HeldAfterFlush};
 
+use arrayvec::ArrayVec;
 use device::{Device, Fault, PAYLOAD, PendingWrite};
 
-mod held;
-
-pub use held::HELD;
-use held::HeldWrites;
+/// How many written sectors a cache holds at most.
+pub const HELD: usize = 8;
 
 /// A device over another, which it holds by value.
 #[derive(Drop)]
-pub struct Cache<D: Device> {
+pub struct Cache<D> {
     below: D,
-    held: HeldWrites,
+    // the one held longest first
+    held: ArrayVec<PendingWrite, HELD>,
+    pub ghost few: { length held.items ≤ 8 },
+    pub ghost apart: { Distinct held.items } by { Distinct-prop held.items },
 }
 
 impl<D: Device> Cache<D> {
     /// A cache that holds nothing yet.
     pub fn new(below: D) -> Cache<D>
         ensures below { result.below ≡ below }
-        ensures empty { listed result.held ≡ [] }
+        ensures empty { result.held.items ≡ [] }
     {
         Cache {
             below,
-            held: HeldWrites::none(),
+            held: ArrayVec::new(),
         }
     }
 
@@ -42,52 +42,46 @@ impl<D: Device> Cache<D> {
         below
     }
 
-    // Passes a write on to the device below; a write to a sector that this does not have is dropped.
-    fn pass_on(&mut self, write: PendingWrite) -> Result<(), Fault>
-        ensures held { self.new.held ≡ self.old.held }
-        ensures below { Passed write result (D.means self.old.below) (D.means self.new.below) }
+    // Turns a call away if the device below is off, or else does not have the sector.
+    fn admit(&self, sector: u32) -> Result<(), Fault>
+        ensures { MatchResult result (λ _. ((D.means self.now.below).on ≡ true) × (sector < (D.means self.now.below).count)) (λ fault. TurnsAway sector (D.means self.now.below) fault) }
     {
-        if write.sector >= self.below.count() {
-            return Ok(());
+        if !self.below.is_on() {
+            return Err(Fault::Off);
         }
-        self.below.write(write.sector, &write.bytes)
+        if sector >= self.below.count() {
+            return Err(Fault::NoSector);
+        }
+        Ok(())
+    }
+
+    // The place of the youngest write to the sector.
+    fn place_of(&self, sector: u32) -> Option<usize>
+        ensures { MatchOption result (Absent sector self.now.held.items) (λ k. Place sector self.now.held.items k) }
+    {
+        self.held.iter().rposition(|write| write.sector == sector)
     }
 
     // Makes room for one more: if as many are held as may be, the one held longest is passed on.
     fn make_room(&mut self) -> Result<(), Fault>
-        ensures free { length (listed self.old.held) < 8 → self.new.below ≡ self.old.below }
-        ensures room { MakesRoom result (listed self.old.held) (listed self.new.held) (D.means self.old.below) (D.means self.new.below) }
+        ensures free { length self.old.held.items < 8 → self.new.below ≡ self.old.below }
+        ensures room { MakesRoom result self.old.held.items self.new.held.items (D.means self.old.below) (D.means self.new.below) }
     {
-        if self.held.len() < HELD {
-            return Ok(());
-        }
-        let oldest = self.held.oldest();
-        self.pass_on(oldest)?;
-        self.held.drop_oldest();
-        Ok(())
-    }
-
-    // Passes all that is held on, the one held longest first. All is still held afterwards.
-    fn pass_all_on(&mut self) -> Result<(), Fault>
-        ensures held { self.new.held ≡ self.old.held }
-        ensures below { PassesAll result (listed self.old.held) (D.means self.old.below) (D.means self.new.below) }
-    {
-        for k in 0..self.held.len() {
-            let write = self.held.at(k);
-            self.pass_on(write)?;
+        if self.held.is_full() {
+            pass_on(&mut self.below, self.held[0])?;
+            self.held.remove(0);
         }
         Ok(())
     }
 
     // Takes a write, in the place of an earlier one to its sector or as the youngest.
     fn hold(&mut self, write: PendingWrite) -> Result<(), Fault>
-        ensures rules { (D.means self.old.below).on ≡ true → write.sector < (D.means self.old.below).count → WriteCall write.sector write.bytes result (with_waiting (listed self.old.held) (D.means self.old.below)) (with_waiting (listed self.new.held) (D.means self.new.below)) }
-        ensures held { HeldAfter write.sector write.bytes result (listed self.old.held) (listed self.new.held) }
-        ensures apart { Distinct (listed self.old.held) → Distinct (listed self.new.held) }
-        ensures below { (length (listed self.old.held) < 8) ⊎ (Absent write.sector (listed self.old.held) → ⊥) → self.new.below ≡ self.old.below }
+        ensures rules { (D.means self.old.below).on ≡ true → write.sector < (D.means self.old.below).count → WriteCall write.sector write.bytes result (with_waiting self.old.held.items (D.means self.old.below)) (with_waiting self.new.held.items (D.means self.new.below)) }
+        ensures held { HeldAfter write.sector write.bytes result self.old.held.items self.new.held.items }
+        ensures below { (length self.old.held.items < 8) ⊎ (Absent write.sector self.old.held.items → ⊥) → self.new.below ≡ self.old.below }
     {
-        if let Some(k) = self.held.place_of(write.sector) {
-            self.held.replace(k, write);
+        if let Some(place) = self.place_of(write.sector) {
+            self.held[place] = write;
             return Ok(());
         }
         self.make_room()?;
@@ -95,30 +89,42 @@ impl<D: Device> Cache<D> {
         Ok(())
     }
 
-    // Flushes the device below, and no more.
-    fn flush_below(&mut self) -> Result<(), Fault>
-        ensures held { self.new.held ≡ self.old.held }
-        ensures below { FlushCall result (D.means self.old.below) (D.means self.new.below) }
-    {
-        self.below.flush()
-    }
-
     // Writes all that is held back, for good, and then holds nothing.
     fn write_back(&mut self) -> Result<(), Fault>
-        ensures rules { FlushCall result (with_waiting (listed self.old.held) (D.means self.old.below)) (with_waiting (listed self.new.held) (D.means self.new.below)) }
-        ensures held { HeldAfterFlush result (listed self.old.held) (listed self.new.held) }
+        ensures rules { FlushCall result (with_waiting self.old.held.items (D.means self.old.below)) (with_waiting self.new.held.items (D.means self.new.below)) }
+        ensures held { HeldAfterFlush result self.old.held.items self.new.held.items }
     {
-        self.pass_all_on()?;
-        self.flush_below()?;
+        pass_all_on(&mut self.below, &self.held)?;
+        self.below.flush()?;
         self.held.clear();
         Ok(())
     }
 }
 
-impl<D: Device> Device for Cache<D> {
-    ghost means = { λ d. with_waiting (listed d.held) (D.Device.means d.below) };
+// Passes a write on to the device below; a write to a sector that this does not have is dropped.
+fn pass_on<D: Device>(below: &mut D, write: PendingWrite) -> Result<(), Fault>
+    ensures { Passed write result (D.means below.old) (D.means below.new) }
+{
+    if write.sector >= below.count() {
+        return Ok(());
+    }
+    below.write(write.sector, &write.bytes)
+}
 
-    ghost laws = { λ d. laws_waiting (listed d.held) (D.Device.means d.below) (D.Device.laws d.below) };
+// Passes the writes on, one after another.
+fn pass_all_on<D: Device>(below: &mut D, writes: &[PendingWrite]) -> Result<(), Fault>
+    ensures { PassesAll result writes.now (D.means below.old) (D.means below.new) }
+{
+    for write in writes {
+        pass_on(below, *write)?;
+    }
+    Ok(())
+}
+
+impl<D: Device> Device for Cache<D> {
+    ghost means = { λ d. with_waiting d.held.items (D.Device.means d.below) };
+
+    ghost laws = { λ d. laws_waiting d.held.items (D.Device.means d.below) (D.Device.laws d.below) };
 
     fn count(&self) -> u32 {
         self.below.count() // nothing is added
@@ -129,18 +135,13 @@ impl<D: Device> Device for Cache<D> {
     }
 
     fn read(&mut self, sector: u32, into: &mut [u8; PAYLOAD]) -> Result<(), Fault>
-        ensures rules { ReadCall sector into.old into.new result (with_waiting (listed self.old.held) (D.means self.old.below)) (with_waiting (listed self.new.held) (D.means self.new.below)) }
+        ensures rules { ReadCall sector into.old into.new result (with_waiting self.old.held.items (D.means self.old.below)) (with_waiting self.new.held.items (D.means self.new.below)) }
         ensures held { self.new.held ≡ self.old.held }
     {
-        if !self.below.is_on() {
-            return Err(Fault::Off);
-        }
-        if sector >= self.below.count() {
-            return Err(Fault::NoSector);
-        }
-        match self.held.find(sector) {
-            Some(write) => {
-                write.copy_to(into);
+        self.admit(sector)?;
+        match self.place_of(sector) {
+            Some(place) => {
+                self.held[place].copy_to(into);
                 Ok(())
             }
             None => self.below.read(sector, into),
@@ -148,24 +149,18 @@ impl<D: Device> Device for Cache<D> {
     }
 
     fn write(&mut self, sector: u32, bytes: &[u8; PAYLOAD]) -> Result<(), Fault>
-        ensures rules { WriteCall sector bytes.now result (with_waiting (listed self.old.held) (D.means self.old.below)) (with_waiting (listed self.new.held) (D.means self.new.below)) }
-        ensures held { HeldAfter sector bytes.now result (listed self.old.held) (listed self.new.held) }
-        ensures apart { Distinct (listed self.old.held) → Distinct (listed self.new.held) }
-        ensures below { (length (listed self.old.held) < 8) ⊎ (Absent sector (listed self.old.held) → ⊥) → self.new.below ≡ self.old.below }
+        ensures rules { WriteCall sector bytes.now result (with_waiting self.old.held.items (D.means self.old.below)) (with_waiting self.new.held.items (D.means self.new.below)) }
+        ensures held { HeldAfter sector bytes.now result self.old.held.items self.new.held.items }
+        ensures below { (length self.old.held.items < 8) ⊎ (Absent sector self.old.held.items → ⊥) → self.new.below ≡ self.old.below }
     {
-        if !self.below.is_on() {
-            return Err(Fault::Off);
-        }
-        if sector >= self.below.count() {
-            return Err(Fault::NoSector);
-        }
+        self.admit(sector)?;
         let bytes = *bytes;
         self.hold(PendingWrite { sector, bytes })
     }
 
     fn flush(&mut self) -> Result<(), Fault>
-        ensures rules { FlushCall result (with_waiting (listed self.old.held) (D.means self.old.below)) (with_waiting (listed self.new.held) (D.means self.new.below)) }
-        ensures held { HeldAfterFlush result (listed self.old.held) (listed self.new.held) }
+        ensures rules { FlushCall result (with_waiting self.old.held.items (D.means self.old.below)) (with_waiting self.new.held.items (D.means self.new.below)) }
+        ensures held { HeldAfterFlush result self.old.held.items self.new.held.items }
     {
         self.write_back()
     }

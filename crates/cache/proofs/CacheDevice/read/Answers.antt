@@ -1,0 +1,22 @@
+-- A held sector is read from the write that is held, and another from the device below.
+-- Assumes nothing.
+use Rattle.std.proofs.Common.{[], subst, sym, List, get_or, rules}
+use Rattle.device.specs.declared.pending.PendingWrite.{PendingWrite}
+use Rattle.device.specs.Sector.{IsPayload}
+use Rattle.device.specs.Waiting.{NoneFor, Holds}
+use Rattle.device.proofs.Lists.{absent_waiting}
+use Rattle.cache.proofs.Absences.{found_holds}
+use Rattle.cache.proofs.CacheDevice.read.Goals as goal
+
+
+pub returns-in-Some-clause-rules : goal.returns-in-Some-clause-rules
+returns-in-Some-clause-rules g c =
+    let w : PendingWrite = get_or c.args.self.now.held.items c.in-Some.place (record { sector = 0; bytes = [] }) in
+    let is : IsPayload w.bytes = rw c.deref.ensures.0 at c.copy_to.ensures.payload in
+    let h : Holds c.args.sector w.bytes c.args.self.now.held.items = found_holds c.args.sector _ c.args.self.now.held.items c.in-Some.place c.in-Some.ensures is in
+    search rules
+
+pub returns-in-None-clause-rules : goal.returns-in-None-clause-rules
+returns-in-None-clause-rules g c =
+    let none : NoneFor c.args.sector c.args.self.now.held.items = absent_waiting _ _ c.in-None.ensures in
+    search rules

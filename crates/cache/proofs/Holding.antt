@@ -1,20 +1,15 @@
--- A write is taken, and all that is held is written back: the rules of a write and of a flush are kept.
+-- A write is taken: its rules are kept, and writes to distinct sectors stay so.
 -- Assumes nothing.
-use Rattle.std.proofs.Common.{◌≡◌, ℕ, ◌-◌, ◌<◌, Bool, true, false, cond, ltb, List, [], ◌∷◌, ◌++◌, length, drop, set, Ok, Err, sym, refl, ap, ◌∙◌, subst, inl, inr, arith}
+use Rattle.std.proofs.Common.{◌≡◌, ℕ, ◌-◌, ◌<◌, Bool, true, false, cond, ltb, List, [], ◌∷◌, ◌++◌, length, drop, set, Ok, sym, ap, ◌∙◌, subst, inl, inr, arith}
 use Rattle.std.specs.List.{refill}
 use Rattle.std.proofs.lemmas.List.{set-append_right, length-set, take-append-le, take_all}
-use Rattle.device.specs.declared.fault.Fault.{Fault}
-use Rattle.device.specs.declared.fault.Fault.TheVariants.{Off}
 use Rattle.device.specs.declared.pending.PendingWrite.{PendingWrite}
-use Rattle.device.specs.Faults.{Answer, returned}
 use Rattle.device.specs.Sector.{IsPayload}
-use Rattle.device.specs.Rules.{Meaning, WriteCall, FlushCall}
-use Rattle.device.specs.Waiting.{Absent, room_in, with_waiting, Keeps}
-use Rattle.device.proofs.Calls.{err_returned}
+use Rattle.device.specs.Rules.{Meaning, WriteCall}
+use Rattle.device.specs.Waiting.{Absent, room_in, with_waiting}
 use Rattle.device.proofs.Lists.{absent_waiting}
-use Rattle.device.proofs.Waits.{joins, replaces, keeps_write, cut_write, cut_flush, flushed, flush_cut}
-use Rattle.cache.specs.Held.{Distinct, Place, Replaced, Takes, MakesRoom, PassesAll}
-use Rattle.cache.proofs.Passing.{is_off}
+use Rattle.device.proofs.Waits.{joins, replaces, keeps_write}
+use Rattle.cache.specs.Held.{Distinct, Place, Replaced, Takes, MakesRoom}
 
 -- what an assignment to a place leaves
 pub assigned : (ws : List PendingWrite) (k : ℕ) (w : PendingWrite) → refill (length ws) ws (set ws k w) ≡ set ws k w
@@ -47,7 +42,6 @@ joined_rules w ws ws₁ m m₁ is r on here =
 pub joined : (w : PendingWrite) (ws ws₁ : List PendingWrite) → Absent w.sector ws → ws₁ ≡ room_in ws → Takes w ws (ws₁ ++ w ∷ [])
 joined w ws ws₁ none r = inr (none, ap (λ (z : List PendingWrite). z ++ w ∷ []) r)
 
--- Writes to distinct sectors stay so.
 absent_last : (s : ℕ) (ws : List PendingWrite) (w : PendingWrite) → Absent s ws → (w.sector ≡ s → ⊥) → Absent s (ws ++ w ∷ [])
 absent_last s [] w h ne = (ne, tt)
 absent_last s (v ∷ ws) w h ne = (h.0, absent_last s ws w h.1 ne)

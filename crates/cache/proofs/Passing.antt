@@ -13,7 +13,7 @@ use Rattle.device.proofs.Waits.{passed_on, added_on, past_dropped, keeps_refl, k
 use Rattle.device.proofs.Calls.{err_returned}
 use Rattle.cache.specs.Held.{Passed, MakesRoom, PassesAll}
 
-pub is_off : (e : Fault) → number e ≡ 1 → e ≡ Off
+is_off : (e : Fault) → number e ≡ 1 → e ≡ Off
 is_off Off h = refl
 is_off NoSector h = absurd (omega arith)
 is_off Torn h = absurd (omega arith)

@@ -15,14 +15,14 @@ abbrev pub Distinct : List PendingWrite → Type 0
 Distinct [] = Unit {0}
 Distinct (w ∷ ws) = Absent w.sector ws × Distinct ws
 
-absent_prop : (s : ℕ) (ws : List PendingWrite) → IsProp (Absent s ws)
-absent_prop s [] = Unit-prop
-absent_prop s (w ∷ ws) = ×_prop (→_prop (λ x y. absurd x)) (absent_prop s ws)
+Absent-prop : (s : ℕ) (ws : List PendingWrite) → IsProp (Absent s ws)
+Absent-prop s [] = Unit-prop
+Absent-prop s (w ∷ ws) = ×_prop (→_prop (λ x y. absurd x)) (Absent-prop s ws)
 
 -- there is one proof of it at most, as a ghost field wants
 pub Distinct-prop : (ws : List PendingWrite) → IsProp (Distinct ws)
 Distinct-prop [] = Unit-prop
-Distinct-prop (w ∷ ws) = ×_prop (absent_prop w.sector ws) (Distinct-prop ws)
+Distinct-prop (w ∷ ws) = ×_prop (Absent-prop w.sector ws) (Distinct-prop ws)
 
 -- w takes the place of a write to its sector, the youngest one
 pub record Replaced (w : PendingWrite) (ws ws' : List PendingWrite) : Type 0 where

@@ -12,7 +12,7 @@ use device::{Device, Fault, PAYLOAD, PendingWrite};
 /// How many written sectors a cache holds at most.
 pub const HELD: usize = 8;
 
-/// A device over another, which it holds by value.
+/// A device over another, which it holds by value. It never holds more than eight writes, nor two to one sector.
 #[derive(Drop)]
 pub struct Cache<D> {
     below: D,
@@ -88,17 +88,6 @@ impl<D: Device> Cache<D> {
         self.held.push(write);
         Ok(())
     }
-
-    // Writes all that is held back, for good, and then holds nothing.
-    fn write_back(&mut self) -> Result<(), Fault>
-        ensures rules { FlushCall result (with_waiting self.old.held.items (D.means self.old.below)) (with_waiting self.new.held.items (D.means self.new.below)) }
-        ensures held { HeldAfterFlush result self.old.held.items self.new.held.items }
-    {
-        pass_all_on(&mut self.below, &self.held)?;
-        self.below.flush()?;
-        self.held.clear();
-        Ok(())
-    }
 }
 
 // Passes a write on to the device below; a write to a sector that this does not have is dropped.
@@ -111,7 +100,7 @@ fn pass_on<D: Device>(below: &mut D, write: PendingWrite) -> Result<(), Fault>
     below.write(write.sector, &write.bytes)
 }
 
-// Passes the writes on, one after another.
+// Passes the writes on, the first one first.
 fn pass_all_on<D: Device>(below: &mut D, writes: &[PendingWrite]) -> Result<(), Fault>
     ensures { PassesAll result writes.now (D.means below.old) (D.means below.new) }
 {
@@ -162,6 +151,9 @@ impl<D: Device> Device for Cache<D> {
         ensures rules { FlushCall result (with_waiting self.old.held.items (D.means self.old.below)) (with_waiting self.new.held.items (D.means self.new.below)) }
         ensures held { HeldAfterFlush result self.old.held.items self.new.held.items }
     {
-        self.write_back()
+        pass_all_on(&mut self.below, &self.held)?;
+        self.below.flush()?;
+        self.held.clear();
+        Ok(())
     }
 }

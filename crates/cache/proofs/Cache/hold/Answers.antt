@@ -2,7 +2,6 @@
 -- Assumes nothing.
 use Rattle.std.proofs.Common.{inl, arith, rules}
 use Rattle.std.proofs.lemmas.List.{length-set}
-use Rattle.std.proofs.lemmas.Result.{err_from_is_err_and}
 use Rattle.cache.proofs.Holding.{assigned, replaced, replaced_rules, joined, joined_rules, takes_distinct}
 use Rattle.cache.proofs.Cache.hold.Goals as goal
 

@@ -1,6 +1,6 @@
 -- Eight are held, and the one held longest goes.
 -- Assumes nothing.
-use Rattle.std.proofs.Common.{[], length, ap, ◌∙◌, ◌≡◌, arith, rules}
+use Rattle.std.proofs.Common.{rules}
 use Rattle.std.proofs.lemmas.Result.{err_from_is_err_and}
 use Rattle.cache.proofs.Passing.{made_room, room_cut}
 use Rattle.cache.proofs.Cache.make_room.Goals as goal

@@ -1,13 +1,12 @@
 -- A held sector is read from the write that is held, and another from the device below.
 -- Assumes nothing.
-use Rattle.std.proofs.Common.{[], subst, sym, List, get_or, rules}
+use Rattle.std.proofs.Common.{[], get_or, rules}
 use Rattle.device.specs.declared.pending.PendingWrite.{PendingWrite}
 use Rattle.device.specs.Sector.{IsPayload}
 use Rattle.device.specs.Waiting.{NoneFor, Holds}
 use Rattle.device.proofs.Lists.{absent_waiting}
 use Rattle.cache.proofs.Absences.{found_holds}
 use Rattle.cache.proofs.CacheDevice.read.Goals as goal
-
 
 pub returns-in-Some-clause-rules : goal.returns-in-Some-clause-rules
 returns-in-Some-clause-rules g c =

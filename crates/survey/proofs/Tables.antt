@@ -1,6 +1,6 @@
 -- What a survey has done so far: a table that is filled sector by sector, from a device that stays as it was.
 -- Assumes nothing.
-use Rattle.std.proofs.Common.{◌≡◌, ℕ, ◌+◌, ◌<◌, true, List, length, set, Some, sym, ◌∙◌, subst, inl, inr, arith}
+use Rattle.std.proofs.Common.{◌≡◌, ℕ, ◌+◌, ◌<◌, true, List, length, set, Ok, sym, ◌∙◌, subst, inl, inr, arith}
 use Rattle.std.proofs.lemmas.Bool.{cases_eq}
 use Rattle.std.proofs.lemmas.List.{get_or-set_same, get_or-set_other}
 use Rattle.device.specs.Rules.{Meaning, CountStays, Unchanged}
@@ -19,7 +19,7 @@ pub record SoFar (n : ℕ) (xs ys : List Condition) (m m' : Meaning) : Type 0 wh
   pub rest : SameFrom n xs ys
 
 -- one sector more is told
-pub one_more : (n : ℕ) (xs ys : List Condition) (m m₁ m₂ : Meaning) (k : Condition) → SoFar n xs ys m m₁ → n < length ys → Looked n (Some k) m₁ m₂ → SoFar (n + 1) xs (set ys n k) m m₂
+pub one_more : (n : ℕ) (xs ys : List Condition) (m m₁ m₂ : Meaning) (k : Condition) → SoFar n xs ys m m₁ → n < length ys → Looked n (Ok k) m₁ m₂ → SoFar (n + 1) xs (set ys n k) m m₂
 one_more n xs ys m m₁ m₂ k f h l = record {
   count = l.0 ∙ f.count;
   same = unchanged_then m m₁ m₂ f.same l.2;

@@ -1,17 +1,18 @@
 -- What looking at one sector, and at all of them, tells.
 -- Assumes nothing.
-use Rattle.std.specs.Prelude.{◌≡◌, ℕ, ◌<◌, ◌≤◌, true, false, List, length, Some, None, Ok, Err, Option, Result}
+use Rattle.std.specs.Prelude.{◌≡◌, ℕ, ◌<◌, ◌≤◌, true, false, List, length, Ok, Err, Result}
+use Rattle.device.specs.declared.Fault.{Fault}
 use Rattle.device.specs.Rules.{Meaning, CountStays, Unchanged, NoneAdded}
 use Rattle.survey.specs.declared.condition.Condition.{Condition}
 use Rattle.survey.specs.declared.condition.SurveyError.{SurveyError}
 use Rattle.survey.specs.declared.condition.SurveyError.TheVariants.{Off, ShortTable}
 use Rattle.survey.specs.Conditions.{Shows, at, Surveyed}
 
--- looking at sector s tells its condition and changes nothing, or tells nothing: of a sector below the count,
--- only since the device is off
-abbrev pub Looked : ℕ → Option Condition → Meaning → Meaning → Type 0
-Looked s (Some k) m m' = CountStays m m' × Shows k (m.current s) × Unchanged m m' × (m'.on ≡ true)
-Looked s None m m' = CountStays m m' × (s < m.count → (m'.on ≡ false) × NoneAdded m.possible m'.possible)
+-- looking at sector s tells its condition and changes nothing, or is refused: at a sector below the count, only
+-- since the device is off
+abbrev pub Looked : ℕ → Result Condition Fault → Meaning → Meaning → Type 0
+Looked s (Ok k) m m' = CountStays m m' × Shows k (m.current s) × Unchanged m m' × (m'.on ≡ true)
+Looked s (Err f) m m' = CountStays m m' × (s < m.count → (f ≡ Fault.Off) × (m'.on ≡ false) × NoneAdded m.possible m'.possible)
 
 -- from place n on, table ys is table xs
 abbrev pub SameFrom : ℕ → List Condition → List Condition → Type 0

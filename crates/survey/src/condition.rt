@@ -1,4 +1,7 @@
-//! What can be told of a sector by reading it, and runs of neighbours.
+//! What can be told of a sector by reading it, runs of neighbours, and a verdict on all.
+
+use std::fmt;
+use thiserror::Error;
 
 /// The condition of a sector.
 #[derive(Clone, Copy, Debug, PartialEq, Eq)]
@@ -18,21 +21,34 @@ pub struct Run {
     pub last: usize,
 }
 
+impl fmt::Display for Run {
+    fn fmt<W: fmt::Write>(&self, f: &mut fmt::Formatter<W>) -> fmt::Result {
+        let Run { first, last } = self;
+        if first == last {
+            write!(f, "{first}")
+        } else {
+            write!(f, "{first}-{last}")
+        }
+    }
+}
+
 /// Why a survey tells nothing.
-#[derive(Clone, Copy, Debug, PartialEq, Eq)]
+#[derive(Clone, Copy, Debug, PartialEq, Eq, Error)]
 pub enum SurveyError {
-    /// the device is off
+    #[error("the device is off")]
     Off,
-    /// the table has fewer places than the device has sectors
+    #[error("the table has fewer places than the device has sectors")]
     ShortTable,
 }
 
 /// Why a card image cannot be surveyed.
-#[derive(Clone, Copy, Debug, PartialEq, Eq)]
+#[derive(Clone, Copy, Debug, PartialEq, Eq, Error)]
 pub enum ImageError {
     /// more than 1,024 rows
+    #[error("a card image has at most 1,024 rows of 64 bytes, and this file is longer")]
     TooLong,
     /// it does not end where a row ends
+    #[error("a card image is whole rows of 64 bytes, and this file is not")]
     NotWholeRows,
 }
 
@@ -44,4 +60,16 @@ pub enum Verdict {
     SomeTorn,
     AllBlank,
     AllReadable,
+}
+
+impl fmt::Display for Verdict {
+    fn fmt<W: fmt::Write>(&self, f: &mut fmt::Formatter<W>) -> fmt::Result {
+        f.write_str(match self {
+            Verdict::NoSectors => "The image is empty: it has no sectors.",
+            Verdict::AllTorn => "The card cannot be read: every sector is torn.",
+            Verdict::SomeTorn => "The card is damaged: the torn sectors cannot be read.",
+            Verdict::AllBlank => "The card is blank: every sector can be read and holds zeros.",
+            Verdict::AllReadable => "The card is sound: every sector can be read.",
+        })
+    }
 }

@@ -21,13 +21,7 @@ pub fn survey_image(
     if image.len() > LONGEST {
         return Err(ImageError::TooLong);
     }
-    let mut rows = match RowImage::new(&mut image) {
-        Ok(rows) => rows,
-        Err(_) => return Err(ImageError::NotWholeRows),
-    };
-    match survey(&mut rows, table) {
-        Ok(count) => Ok(count),
-        // the table has a place for every row, and a row image is never off
-        Err(_) => unreachable(),
-    }
+    let mut rows = RowImage::new(&mut image).map_err(|_| ImageError::NotWholeRows)?;
+    // the table has a place for every row, and a row image is never off
+    Ok(survey(&mut rows, table).unwrap())
 }

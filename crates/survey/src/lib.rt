@@ -10,5 +10,5 @@ mod verdicts;
 pub use condition::{Condition, ImageError, Run, SurveyError, Verdict};
 pub use image::{LONGEST, SECTORS, survey_image};
 pub use look::survey;
-pub use runs::{how_many, next_run, readable};
+pub use runs::{Runs, how_many, next_run, readable};
 pub use verdicts::judge;

@@ -10,29 +10,19 @@ fn is_blank(bytes: &[u8]) -> bool
     ensures yes { result ≡ true → bytes.now ≡ replicate (length bytes.now) 0 }
     ensures not { result ≡ false → bytes.now ≢ replicate (length bytes.now) 0 }
 {
-    for b in bytes {
-        if *b != 0 {
-            return false;
-        }
-    }
-    true
+    bytes.iter().all(|byte| *byte == 0)
 }
 
-// The condition of one sector, or none where the device does not tell.
-fn look<D: Device>(device: &mut D, sector: u32) -> Option<Condition>
+// The condition of one sector. A fault other than a torn sector is passed on.
+fn look<D: Device>(device: &mut D, sector: u32) -> Result<Condition, Fault>
     ensures { Looked sector result (D.means device.old) (D.means device.new) }
 {
     let mut bytes = [0u8; PAYLOAD];
     match device.read(sector, &mut bytes) {
-        Ok(()) => {
-            if is_blank(&bytes) {
-                Some(Condition::Blank)
-            } else {
-                Some(Condition::Written)
-            }
-        }
-        Err(Fault::Torn) => Some(Condition::Torn),
-        Err(_) => None,
+        Ok(()) if is_blank(&bytes) => Ok(Condition::Blank),
+        Ok(()) => Ok(Condition::Written),
+        Err(Fault::Torn) => Ok(Condition::Torn),
+        Err(fault) => Err(fault),
     }
 }
 
@@ -47,10 +37,9 @@ pub fn survey<D: Device>(device: &mut D, table: &mut [Condition]) -> Result<usiz
     if !device.is_on() {
         return Err(SurveyError::Off);
     }
+    // by number: zipped with the sectors the places are lent, and what they hold in the end was not proved
     for sector in 0..count {
-        let Some(condition) = look(device, sector) else {
-            return Err(SurveyError::Off); // cut within a read
-        };
+        let condition = look(device, sector).map_err(|_| SurveyError::Off)?; // cut within a read
         table[sector as usize] = condition;
     }
     Ok(count as usize)

@@ -1,7 +1,8 @@
 //! Looking up and counting conditions in a table that has one for each sector.
-ghost use Rattle.std.specs.Prelude.{◌≡◌, ℕ, ◌+◌, ◌<◌, ◌≤◌, length, MatchOption, ◌≢◌};
+ghost use Rattle.std.specs.Prelude.{◌≡◌, ℕ, ◌+◌, ◌-◌, ◌<◌, ◌≤◌, length, MatchOption, ◌≢◌};
 ghost use Rattle.survey.specs.Conditions.{at, count_of};
-ghost use Rattle.survey.specs.Runs.{NextRun};
+ghost use Rattle.survey.specs.Runs.{NextRun, GivesRun, LooksFrom};
+ghost use Rattle.std.specs.Iterator.{at_most};
 
 use crate::condition::{Condition, Run};
 
@@ -10,13 +11,7 @@ pub fn how_many(conditions: &[Condition], wanted: Condition) -> usize
     ensures value { result ≡ count_of wanted conditions.now }
     ensures bound { result ≤ length conditions.now }
 {
-    let mut count = 0;
-    for c in conditions {
-        if *c == wanted {
-            count += 1;
-        }
-    }
-    count
+    conditions.iter().filter(|c| **c == wanted).count()
 }
 
 /// How many sectors can be read.
@@ -30,12 +25,7 @@ pub fn readable(conditions: &[Condition]) -> usize
 fn find(conditions: &[Condition], wanted: Condition, from: usize) -> Option<usize>
     ensures { MatchOption result ((s : ℕ) → from ≤ s → s < length conditions.now → at conditions.now s ≢ wanted) (λ i. (from ≤ i) × (i < length conditions.now) × (at conditions.now i ≡ wanted) × ((s : ℕ) → from ≤ s → s < i → at conditions.now s ≢ wanted)) }
 {
-    for i in from..conditions.len() {
-        if conditions[i] == wanted {
-            return Some(i);
-        }
-    }
-    None
+    (from..conditions.len()).find(|sector| conditions[*sector] == wanted)
 }
 
 // The last sector of the run that `first` is in.
@@ -45,12 +35,8 @@ fn last_of(conditions: &[Condition], first: usize) -> usize
     ensures all { (s : ℕ) → first ≤ s → s ≤ result → at conditions.now s ≡ at conditions.now first }
     ensures ends { result + 1 < length conditions.now → at conditions.now (result + 1) ≢ at conditions.now first }
 {
-    for i in first..conditions.len() - 1 {
-        if conditions[i + 1] != conditions[first] {
-            return i;
-        }
-    }
-    conditions.len() - 1
+    let past = (first..conditions.len()).find(|sector| conditions[*sector] != conditions[first]);
+    past.unwrap_or(conditions.len()) - 1
 }
 
 /// The first run in the wanted condition that begins at sector `from` or later.
@@ -60,4 +46,39 @@ pub fn next_run(conditions: &[Condition], wanted: Condition, from: usize) -> Opt
     let first = find(conditions, wanted, from)?;
     let last = last_of(conditions, first);
     Some(Run { first, last })
+}
+
+/// The runs in one condition, in order.
+#[derive(Clone, Debug, Drop)]
+pub struct Runs<'a> {
+    conditions: &'a [Condition],
+    wanted: Condition,
+    from: usize,
+}
+
+impl<'a> Runs<'a> {
+    /// The runs in the wanted condition, from the first sector on.
+    pub fn new(conditions: &'a [Condition], wanted: Condition) -> Runs<'a>
+        ensures { LooksFrom result conditions.now wanted 0 }
+    {
+        Runs {
+            conditions,
+            wanted,
+            from: 0,
+        }
+    }
+}
+
+impl Iterator for Runs<'_> {
+    type Item = Run;
+
+    ghost next_gives = { GivesRun };
+
+    ghost remaining = { λ runs. at_most (length runs.conditions.now - runs.from) };
+
+    fn next(&mut self) -> Option<Run> {
+        let run = next_run(self.conditions, self.wanted, self.from)?;
+        self.from = run.last + 1;
+        Some(run)
+    }
 }

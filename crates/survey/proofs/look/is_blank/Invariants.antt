@@ -1,7 +1,0 @@
--- The bytes that were passed are zero.
--- Assumes nothing.
-use Rattle.std.proofs.Common.{◌≡◌, ℕ, ◌<◌, get_or}
-use Rattle.survey.proofs.look.is_blank.Given as goal
-
-abbrev pub invariant-loop-b : goal.invariant-loop-b
-invariant-loop-b l = (k : ℕ) → k < l.b-index → get_or l.bytes k 0 ≡ 0

@@ -3,8 +3,8 @@
 
 mod report;
 
-use anyhow::anyhow;
-use report::{Report, complaint};
+use anyhow::{anyhow, bail};
+use report::Report;
 use std::process::ExitCode;
 use std::{env, fs, io};
 use survey::{Condition, ImageError, LONGEST, SECTORS, survey_image};
@@ -14,18 +14,12 @@ const USUAL: &str = "heap.img";
 
 // The file's bytes, unless it is too long for a card image.
 fn read_image(rt: &HostRuntime, path: &str) -> anyhow::Result<Vec<u8>> {
-    match fs::metadata(rt, path) {
-        Ok(found) => {
-            if found.len() > LONGEST as u64 {
-                return Err(anyhow!(complaint(ImageError::TooLong)));
-            }
-        }
-        Err(error) => {
-            if error.kind() == io::ErrorKind::NotFound {
-                return Err(anyhow!("there is no such file"));
-            }
-            return Err(error.into());
-        }
+    let found = fs::metadata(rt, path).map_err(|error| match error.kind() {
+        io::ErrorKind::NotFound => anyhow!("there is no such file"),
+        _ => error.into(),
+    })?;
+    if found.len() > LONGEST as u64 {
+        bail!(ImageError::TooLong);
     }
     Ok(fs::read(rt, path)?)
 }
@@ -33,16 +27,12 @@ fn read_image(rt: &HostRuntime, path: &str) -> anyhow::Result<Vec<u8>> {
 fn inspect(rt: &HostRuntime, path: &str) -> anyhow::Result<()> {
     let image = read_image(rt, path)?;
     let mut table = [Condition::Torn; SECTORS];
-    match survey_image(image, &mut table) {
-        Ok(count) => {
-            let report = Report {
-                conditions: &table[0..count],
-            };
-            println!(rt; "{report}")?;
-            Ok(())
-        }
-        Err(error) => Err(anyhow!(complaint(error))),
-    }
+    let count = survey_image(image, &mut table)?;
+    let report = Report {
+        conditions: &table[..count],
+    };
+    println!(rt; "{report}")?;
+    Ok(())
 }
 
 // Inspects the image, or says on the error stream what is wrong with it.
@@ -57,8 +47,6 @@ fn tell(rt: &HostRuntime, path: &str) -> anyhow::Result<ExitCode> {
 }
 
 fn main(rt: HostRuntime) -> anyhow::Result<ExitCode> {
-    match env::args(&rt)?.nth(1) {
-        Some(path) => tell(&rt, path.as_str()),
-        None => tell(&rt, USUAL),
-    }
+    let path = env::args(&rt)?.nth(1);
+    tell(&rt, path.as_deref().unwrap_or(USUAL))
 }

@@ -1,6 +1,6 @@
 -- The condition of a sector, and of all sectors of a device.
 -- Assumes nothing.
-use Rattle.std.specs.Prelude.{◌≡◌, ℕ, ◌<◌, Bool, List, replicate, count_by, ◌==◌, ◌≢◌, slice_index_or}
+use Rattle.std.specs.Prelude.{◌≡◌, ℕ, ◌<◌, Bool, true, false, List, replicate, count_by, ◌≢◌, slice_index_or}
 use Rattle.device.specs.Sector.{Content, payload, torn, Image}
 use Rattle.survey.specs.declared.condition.Condition.{Condition}
 use Rattle.survey.specs.declared.condition.Condition.TheVariants.{Blank, Written, Torn}
@@ -19,14 +19,13 @@ at xs s = slice_index_or xs s Blank
 abbrev pub Surveyed : Image → ℕ → List Condition → Type 0
 Surveyed σ n xs = (s : ℕ) → s < n → Shows (at xs s) (σ s)
 
--- how many sectors of a table are in condition k
-abbrev pub rank : Condition → ℕ
-rank Blank = 0
-rank Written = 1
-rank Torn = 2
-
+-- whether two conditions are the same
 abbrev pub same : Condition → Condition → Bool
-same k x = rank x == rank k
+same Blank Blank = true
+same Written Written = true
+same Torn Torn = true
+same _ _ = false
 
+-- how many sectors of a table are in condition k
 abbrev pub count_of : Condition → List Condition → ℕ
 count_of k xs = count_by (same k) xs

@@ -1,5 +1,5 @@
 //! Telling the condition of every sector of a device.
-ghost use Rattle.std.specs.Prelude.{◌≡◌, true, false, length, replicate, ◌≢◌};
+ghost use Rattle.std.specs.Prelude.{◌≡◌, ◌↔◌, IsTrue, length, replicate};
 ghost use Rattle.survey.specs.Surveys.{Looked, Surveys};
 
 use crate::condition::{Condition, SurveyError};
@@ -7,8 +7,7 @@ use device::{Device, Fault, PAYLOAD};
 
 // Whether every byte is zero.
 fn is_blank(bytes: &[u8]) -> bool
-    ensures yes { result ≡ true → bytes.now ≡ replicate (length bytes.now) 0 }
-    ensures not { result ≡ false → bytes.now ≢ replicate (length bytes.now) 0 }
+    ensures { IsTrue result ↔ (bytes.now ≡ replicate (length bytes.now) 0) }
 {
     bytes.iter().all(|byte| *byte == 0)
 }

@@ -1,8 +1,8 @@
 //! Looking up and counting conditions in a table that has one for each sector.
 ghost use Rattle.std.specs.Prelude.{◌≡◌, ℕ, ◌+◌, ◌-◌, ◌<◌, ◌≤◌, length, MatchOption, ◌≢◌};
+ghost use Rattle.std.specs.Iterator.{at_most};
 ghost use Rattle.survey.specs.Conditions.{at, count_of};
 ghost use Rattle.survey.specs.Runs.{NextRun, GivesRun, LooksFrom};
-ghost use Rattle.std.specs.Iterator.{at_most};
 
 use crate::condition::{Condition, Run};
 
@@ -11,7 +11,10 @@ pub fn how_many(conditions: &[Condition], wanted: Condition) -> usize
     ensures value { result ≡ count_of wanted conditions.now }
     ensures bound { result ≤ length conditions.now }
 {
-    conditions.iter().filter(|c| **c == wanted).count()
+    conditions
+        .iter()
+        .filter(|condition| **condition == wanted)
+        .count()
 }
 
 /// How many sectors can be read.

@@ -1,32 +1,35 @@
 -- A write is taken: its rules are kept, and writes to distinct sectors stay so.
 -- Assumes nothing.
-use Rattle.std.proofs.Common.{◌≡◌, ℕ, ◌-◌, ◌<◌, Bool, true, false, cond, ltb, List, [], ◌∷◌, ◌++◌, length, drop, set, Ok, sym, ap, ◌∙◌, subst, inl, inr, arith}
+use Rattle.std.proofs.Common.{◌≡◌, ℕ, ◌+◌, ◌-◌, ◌<◌, Bool, true, false, cond, ltb, List, [], ◌∷◌, ◌++◌, length, get_or, take, drop, set, Ok, sym, ap, ◌∙◌, subst, inl, inr, arith}
 use Rattle.std.specs.List.{refill}
-use Rattle.std.proofs.lemmas.List.{set-append_right, length-set, take-append-le, take_all}
+use Rattle.std.proofs.lemmas.List.{take-append-drop, drop_more, length-take-le, set-append_right, length-set, take-append-le, take_all}
 use Rattle.device.specs.declared.pending.PendingWrite.{PendingWrite}
 use Rattle.device.specs.Sector.{IsPayload}
 use Rattle.device.specs.Rules.{Meaning, WriteCall}
-use Rattle.device.specs.Waiting.{Absent, room_in, with_waiting}
-use Rattle.device.proofs.Lists.{absent_waiting}
+use Rattle.device.specs.Waiting.{Absent, YoungestAt, room_in, with_waiting}
+use Rattle.device.proofs.Lists.{absent_waiting, absent_from}
 use Rattle.device.proofs.Waits.{joins, replaces, keeps_write}
-use Rattle.cache.specs.Held.{Distinct, Place, Replaced, Takes, MakesRoom}
+use Rattle.cache.specs.Held.{Distinct, Replaced, Takes, MakesRoom}
 
 -- what an assignment to a place leaves
 pub assigned : (ws : List PendingWrite) (k : ℕ) (w : PendingWrite) → refill (length ws) ws (set ws k w) ≡ set ws k w
 assigned ws k w = let l = length-set ws k w in take-append-le (length ws) (set ws k w) (drop (length (set ws k w)) ws) (omega arith) ∙ take_all (length ws) (set ws k w) (omega arith)
 
-pub replaced : (w : PendingWrite) (ws : List PendingWrite) (k : ℕ) → Place w.sector ws k → Replaced w ws (set ws k w)
+pub replaced : (w : PendingWrite) (ws : List PendingWrite) (k : ℕ) → YoungestAt w.sector ws k → Replaced w ws (set ws k w)
 replaced w ws k p = record {
-  before = p.before;
-  old = p.found;
-  after = p.after;
-  held = p.whole;
-  same = p.same;
-  last = p.last;
-  now_held = ap (λ (z : List PendingWrite). set z k w) p.whole
-      ∙ set-append_right p.before (p.found ∷ p.after) k k w p.place (omega arith)
-      ∙ ap (λ (i : ℕ). p.before ++ set (p.found ∷ p.after) i w) (let z : k - k ≡ 0 = omega arith in z);
+  before = take k ws;
+  old = get_or ws k w;
+  after = drop (k + 1) ws;
+  held = whole;
+  same = p.1 w;
+  last = absent_from w.sector ws (k + 1) p.2;
+  now_held = ap (λ (z : List PendingWrite). set z k w) whole
+      ∙ set-append_right (take k ws) (get_or ws k w ∷ drop (k + 1) ws) k k w (length-take-le k ws (let l = p.0 in omega arith)) (omega arith)
+      ∙ ap (λ (i : ℕ). take k ws ++ set (get_or ws k w ∷ drop (k + 1) ws) i w) (let z : k - k ≡ 0 = omega arith in z);
 }
+  where
+    whole : ws ≡ take k ws ++ get_or ws k w ∷ drop (k + 1) ws
+    whole = sym (take-append-drop k ws) ∙ ap (λ (z : List PendingWrite). take k ws ++ z) (drop_more ws k w p.0)
 
 pub replaced_rules : (w : PendingWrite) (ws ws' : List PendingWrite) (m : Meaning) → IsPayload w.bytes → Replaced w ws ws' → m.on ≡ true → w.sector < m.count → WriteCall w.sector w.bytes (Ok tt) (with_waiting ws m) (with_waiting ws' m)
 replaced_rules w ws ws' m is p on here =

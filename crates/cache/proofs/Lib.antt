@@ -1,3 +1,2 @@
-pub mod Absences
 pub mod Passing
 pub mod Holding

@@ -34,17 +34,6 @@ pub record Replaced (w : PendingWrite) (ws ws' : List PendingWrite) : Type 0 whe
   pub last : Absent w.sector after
   pub now_held : ws' ≡ before ++ w ∷ after
 
--- the youngest write to sector s stands at place k
-pub record Place (s : ℕ) (ws : List PendingWrite) (k : ℕ) : Type 0 where
-  pub before : List PendingWrite
-  pub found : PendingWrite
-  pub after : List PendingWrite
-  pub whole : ws ≡ before ++ found ∷ after
-  pub place : length before ≡ k
-  pub inside : k < length ws
-  pub same : found.sector ≡ s
-  pub last : Absent s after
-
 -- what is held once the write w is accepted: in the place of an earlier write to its sector, or else as the youngest
 abbrev pub Takes : PendingWrite → List PendingWrite → List PendingWrite → Type 0
 Takes w ws ws' = Replaced w ws ws' ⊎ (Absent w.sector ws × (ws' ≡ room_in ws ++ w ∷ []))

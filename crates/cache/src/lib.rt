@@ -3,11 +3,11 @@
 
 ghost use Rattle.std.specs.Prelude.{◌≡◌, ◌<◌, ◌≤◌, true, ◌⊎◌, [], length, MatchOption, MatchResult};
 ghost use Rattle.device.specs.Rules.{ReadCall, WriteCall, FlushCall};
-ghost use Rattle.device.specs.Waiting.{Absent, with_waiting, laws_waiting};
-ghost use Rattle.cache.specs.Held.{Distinct, Distinct-prop, Place, Passed, MakesRoom, PassesAll, TurnsAway, HeldAfter, HeldAfterFlush};
+ghost use Rattle.device.specs.Waiting.{Absent, YoungestAt, with_waiting, laws_waiting};
+ghost use Rattle.cache.specs.Held.{Distinct, Distinct-prop, Passed, MakesRoom, PassesAll, TurnsAway, HeldAfter, HeldAfterFlush};
 
 use arrayvec::ArrayVec;
-use device::{Device, Fault, PAYLOAD, PendingWrite};
+use device::{Device, Fault, PAYLOAD, PendingWrite, youngest_to};
 
 /// How many written sectors a cache holds at most.
 pub const HELD: usize = 8;
@@ -56,10 +56,11 @@ impl<D: Device> Cache<D> {
     }
 
     // The place of the youngest write to the sector.
+    #[tactic(auto, using(device::proofs::Lists::none_absent))]
     fn place_of(&self, sector: u32) -> Option<usize>
-        ensures { MatchOption result (Absent sector self.now.held.items) (λ k. Place sector self.now.held.items k) }
+        ensures { MatchOption result (Absent sector self.now.held.items) (YoungestAt sector self.now.held.items) }
     {
-        self.held.iter().rposition(|write| write.sector == sector)
+        youngest_to(&self.held, sector)
     }
 
     // Makes room for one more: if as many are held as may be, the one held longest is passed on.

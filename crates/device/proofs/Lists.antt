@@ -43,6 +43,9 @@ absent_from s [] (suc k) h = tt
 absent_from s (w ∷ ws) zero h = (h 0 w (omega arith) (omega arith), absent_from s ws zero (λ i d l m. h (suc i) d (omega arith) (omega arith)))
 absent_from s (w ∷ ws) (suc k) h = absent_from s ws k (λ i d l m. h (suc i) d (omega arith) (omega arith))
 
+pub none_absent : (s : ℕ) (ws : List PendingWrite) → NoneFrom s ws 0 → Absent s ws
+none_absent s ws h = absent_from s ws 0 h
+
 pub absent_append : (s : ℕ) (xs ys : List PendingWrite) → Absent s xs → Absent s ys → Absent s (xs ++ ys)
 absent_append s [] ys g h = h
 absent_append s (x ∷ xs) ys g h = (g.0, absent_append s xs ys g.1 h)

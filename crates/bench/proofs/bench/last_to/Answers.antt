@@ -2,12 +2,12 @@
 -- Assumes nothing.
 use Rattle.std.proofs.Common.{◌+◌, refl}
 use Rattle.std.proofs.lemmas.List.{get_or_default}
-use Rattle.device.proofs.Lists.{absent_from}
+use Rattle.device.proofs.Lists.{absent_from, none_absent}
 use Rattle.device.proofs.Waits.{place_holds}
 use Rattle.bench.proofs.bench.last_to.Goals as goal
 
 pub returns-in_err-at : goal.returns-in_err-at
-returns-in_err-at c = rw c.from_residual.ensures (absent_from c.args.sector c.args.writes.now 0 c.in_err-at.ensures)
+returns-in_err-at c = rw c.from_residual.ensures (none_absent c.args.sector c.args.writes.now c.in_err-at.ensures)
 
 pub returns : goal.returns
 returns c is =

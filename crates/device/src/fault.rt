@@ -2,14 +2,19 @@
 ghost use Rattle.std.specs.Prelude.{◌≡◌};
 ghost use Rattle.device.specs.Faults.{number};
 
+use thiserror::Error;
+
 /// A call that is turned away answers one of these.
-#[derive(Clone, Copy, Debug, PartialEq, Eq)]
+#[derive(Clone, Copy, Debug, PartialEq, Eq, Error)]
 pub enum Fault {
     /// the device is off: it was, or the power was cut within the call
+    #[error("the device is off")]
     Off,
     /// the sector is not below the device's count
+    #[error("the device has no such sector")]
     NoSector,
     /// the sector's content cannot be read
+    #[error("the sector cannot be read")]
     Torn,
 }
 

@@ -2,12 +2,16 @@
 ghost use Rattle.std.specs.Prelude.{◌≡◌};
 ghost use Rattle.device.specs.Refusals.{number};
 
+use thiserror::Error;
+
 /// What is wrong with the memory.
-#[derive(Clone, Copy, Debug, PartialEq, Eq)]
+#[derive(Clone, Copy, Debug, PartialEq, Eq, Error)]
 pub enum MemoryError {
     /// the memory does not end where a row ends
+    #[error("the memory does not end where a row ends")]
     NotWholeRows,
     /// there are too few places for waiting writes
+    #[error("there are too few places for waiting writes")]
     FewPlaces,
 }
 

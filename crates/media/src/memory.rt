@@ -2,10 +2,13 @@
 ghost use Rattle.std.specs.Prelude.{◌≡◌};
 ghost use Rattle.media.specs.Refusals.{number};
 
+use thiserror::Error;
+
 /// What is wrong with the memory.
-#[derive(Clone, Copy, Debug, PartialEq, Eq)]
+#[derive(Clone, Copy, Debug, PartialEq, Eq, Error)]
 pub enum MemoryError {
     /// the memory does not end where a row ends
+    #[error("the memory does not end where a row ends")]
     NotWholeRows,
 }
 

@@ -1,6 +1,6 @@
 -- What a call on a switch does to the device below it, which means m before the call and m' after it.
 -- `Same` says that the device below is the same. Assumes nothing.
-use Rattle.std.specs.Prelude.{◌≡◌, ℕ, Bool, true, ◌&&◌, List, Err}
+use Rattle.std.specs.Prelude.{◌≡◌, ℕ, Bool, ◌&&◌, List, Err}
 use Rattle.std.proofs.lemmas.Bool.{and_parts}
 use Rattle.device.specs.declared.fault.Fault.TheVariants.{Off}
 use Rattle.device.specs.Faults.{Answer}

@@ -1,6 +1,6 @@
 //! When a switch turns off: it counts its calls, and turns off within one of them.
 ghost use Rattle.std.specs.Prelude.{◌≡◌};
-ghost use Rattle.switch.specs.Fates.{fate, Counts};
+ghost use Rattle.switch.specs.Fates.{fate, is_on, Counts};
 
 /// Whether the write within which a switch turns off still reaches the device below.
 #[derive(Clone, Copy, Debug, PartialEq, Eq)]
@@ -23,28 +23,40 @@ pub enum Fate {
 }
 
 /// Whether a switch is on, and when it turns off.
-#[derive(Clone, Copy)]
-pub struct Fuse {
-    pub on: bool,
-    /// the calls up to the one within which it turns off, this one included; 0: it never turns off
-    pub left: u32,
+#[derive(Clone, Copy, Debug, PartialEq, Eq)]
+pub enum Fuse {
+    /// it has turned off, and stays so
+    Blown,
+    /// it never turns off
+    Lasting,
+    /// it turns off within the call after so many
+    After(u32),
 }
 
 impl Fuse {
+    /// Whether the switch is still on.
+    pub fn is_on(self) -> bool
+        ensures { result ≡ is_on self }
+    {
+        self != Fuse::Blown
+    }
+
     /// Counts a call, and tells what comes of it.
     pub fn count_call(&mut self) -> Fate
         ensures told { result ≡ fate self.old }
         ensures counted { Counts self.old self.new }
     {
-        if !self.on {
-            return Fate::Refused;
+        match *self {
+            Fuse::Blown => Fate::Refused,
+            Fuse::Lasting => Fate::Passed,
+            Fuse::After(0) => {
+                *self = Fuse::Blown;
+                Fate::Cut
+            }
+            Fuse::After(calls) => {
+                *self = Fuse::After(calls - 1);
+                Fate::Passed
+            }
         }
-        if self.left == 1 {
-            self.on = false;
-            self.left = 0;
-            return Fate::Cut;
-        }
-        self.left = self.left.saturating_sub(1);
-        Fate::Passed
     }
 }

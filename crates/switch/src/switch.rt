@@ -20,7 +20,7 @@ impl<D: Device> Switch<D> {
     pub fn new(below: D, call: u32, last: LastWrite) -> Switch<D>
         ensures below { result.below ≡ below }
         ensures on { is_on result.fuse ≡ true }
-        ensures left { result.fuse ≡ fuse_for call }
+        ensures fuse { result.fuse ≡ fuse_for call }
         ensures last { result.last ≡ last }
     {
         let fuse = call.checked_sub(1).map_or(Fuse::Lasting, Fuse::After);

@@ -76,7 +76,7 @@ byte_first r x v p q s f n small first rest =
 -- all bytes, from any register
 divided : (r : ℕ) (xs : List ℕ) → Bytes xs
     → (q : List Bool) × (bit_xor (bit_xor r (value_of xs)) (times q generator) ≡ fed r xs * 2 ^ (8 * length xs))
-unfolding times value_of fed byte_in
+unfolding times value_of fed
 divided r [] bytes = ([], xor_zero_r (bit_xor r 0) ∙ xor_zero_r r ∙ sym (mul-one r))
 divided r (x ∷ xs) bytes =
     let p = steps 8 (bit_xor r x) in
@@ -100,7 +100,7 @@ steps_small zero r h = h
 steps_small (suc n) r h = steps_small n (shifted r) (shifted_small r h)
 
 fed_small : (r : ℕ) (xs : List ℕ) → r < 2 ^ 32 → Bytes xs → fed r xs < 2 ^ 32
-unfolding fed byte_in
+unfolding fed
 fed_small r [] h bytes = h
 fed_small r (x ∷ xs) h bytes =
     let small : x < 256 = bytes 0 in

@@ -1,4 +1,3 @@
 mod Division
-mod Entries
 mod Register
 mod Worked

@@ -1,9 +1,9 @@
 -- The worked examples, by computation.
 -- Assumes nothing.
-use Rattle.crc32c.specs.Crc.{shifted, shifted_by, byte_in, fed}
+use Rattle.crc32c.specs.Crc.{shifted, shifted_by, fed}
 use Rattle.crc32c.specs.Examples.{WorkedExamples}
 use Rattle.std.proofs.Common.{refl}
 
 pub worked : WorkedExamples
-unfolding fed byte_in shifted_by shifted
+unfolding fed shifted_by shifted
 worked = (refl, refl)

@@ -1,6 +1,7 @@
 -- CRC-32C, bit by bit: what a register holds as bytes are fed to it, and the checksum that it gives.
 -- Assumes nothing.
-use Rattle.std.specs.Prelude.{◌≡◌, ℕ, zero, suc, ◌*◌, ◌/◌, ◌%◌, List, [], ◌∷◌, bit_xor}
+use Rattle.std.specs.Prelude.{◌≡◌, ℕ, zero, suc, ◌*◌, ◌/◌, ◌%◌, List, bit_xor}
+use Rattle.std.specs.List.{fold}
 use Rattle.crc32c.specs.declared.Crc32c.{Crc32c}
 
 -- one bit: the register is halved, and where a one falls out the reflected polynomial is subtracted
@@ -13,13 +14,12 @@ shifted_by zero r = r
 shifted_by (suc n) r = shifted_by n (shifted r)
 
 -- one byte: it is added to the register, and its bits are shifted out, the lowest first
-unfoldable pub byte_in : ℕ → ℕ → ℕ
+abbrev pub byte_in : ℕ → ℕ → ℕ
 byte_in r b = shifted_by 8 (bit_xor r b)
 
 -- all bytes, in order
 unfoldable pub fed : ℕ → List ℕ → ℕ
-fed r [] = r
-fed r (b ∷ bs) = fed (byte_in r b) bs
+fed r bytes = fold byte_in r bytes
 
 -- the register starts as all ones, and is complemented at the end
 abbrev pub crc : List ℕ → ℕ

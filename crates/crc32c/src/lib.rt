@@ -3,7 +3,7 @@
 #![tactic(auto)]
 
 ghost use Rattle.std.specs.Prelude.{◌≡◌, ℕ, ◌/◌, true, List, [], ◌∷◌, ◌++◌, replicate, codes, bit_xor};
-ghost use Rattle.crc32c.specs.Crc.{Stands, crc, fed, shifted_by};
+ghost use Rattle.crc32c.specs.Crc.{Stands, byte_in, crc, fed, shifted_by};
 ghost use Rattle.crc32c.specs.Examples.{WorkedExamples};
 ghost use Rattle.crc32c.specs.Remainder.{Division};
 
@@ -12,26 +12,28 @@ mod table;
 use table::TABLE;
 
 /// A checksum in the making. It takes one slice after another, so a message need not lie in one piece.
+// The clauses name the bytes taken each time: a `Copy` type has no ghost field for them, and the register does not tell them.
 #[derive(Clone, Copy)]
 pub struct Crc32c {
     register: u32,
 }
 
+#[tactic(auto, unfolding(crate::specs::Crc::fed))]
 impl Crc32c {
     /// A checksum that has taken no bytes.
     pub fn new() -> Self
         ensures { Stands result [] }
     {
-        Crc32c { register: start() }
+        Crc32c { register: u32::MAX }
     }
 
     /// The checksum once it has taken `bytes` too.
     pub fn with(self, bytes: &[u8]) -> Self
         ensures { (xs : List ℕ) → Stands self xs → Stands result (xs ++ bytes.now) }
     {
-        Crc32c {
-            register: after(self.register, bytes),
-        }
+        // By value: compiled over references, a call from C waits for the result of the call before it.
+        let register = bytes.iter().copied().fold(self.register, step);
+        Crc32c { register }
     }
 
     /// The CRC-32C of all bytes taken.
@@ -42,28 +44,9 @@ impl Crc32c {
     }
 }
 
-// The register before the first byte: all ones.
-fn start() -> u32
-    ensures { result ≡ 0xFFFFFFFF }
-{
-    u32::MAX
-}
-
-// The register once it has taken `bytes`, whatever it took before.
-fn after(register: u32, bytes: &[u8]) -> u32
-    ensures { (xs : List ℕ) → register ≡ fed 0xFFFFFFFF xs → result ≡ fed 0xFFFFFFFF (xs ++ bytes.now) }
-{
-    let mut register = register;
-    // By value: compiled over references, a call from C waits for the result of the call before it.
-    for byte in bytes.iter().copied() {
-        register = step(register, byte);
-    }
-    register
-}
-
 // The register after one byte.
 fn step(register: u32, byte: u8) -> u32
-    ensures { result ≡ shifted_by 8 (bit_xor register byte) }
+    ensures { result ≡ byte_in register byte }
 {
     let sum = register ^ u32::from(byte);
     (sum >> 8) ^ entry(sum)
@@ -99,13 +82,6 @@ pub fn self_test() -> bool
 {
     let [zeros, digits] = published();
     checksum(&[0; 32]) == zeros && checksum(b"123456789") == digits
-}
-
-/// `checksum` under the name by which the crate `crc32c_c` gives it to C.
-pub fn goarfleki_crc32c(bytes: &[u8]) -> u32
-    ensures { result ≡ crc bytes.now }
-{
-    checksum(bytes)
 }
 
 #[cfg(test)]

@@ -9,5 +9,5 @@ ghost use Rattle.crc32c.specs.Crc.{crc};
 pub extern "C" fn goarfleki_crc32c(bytes: &[u8]) -> u32
     ensures { result ≡ crc bytes.now }
 {
-    crc32c::goarfleki_crc32c(bytes)
+    crc32c::checksum(bytes)
 }

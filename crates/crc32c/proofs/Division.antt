@@ -9,19 +9,16 @@ use lib.Bits.{bit_xor, xor_assoc, xor_block, xor_comm, xor_lt, xor_shifted, xor_
 -- n places up
 raised : (n a b : ℕ) → bit_xor (a * 2 ^ n) (b * 2 ^ n) ≡ bit_xor a b * 2 ^ n
 raised n a b =
-    ap₂ bit_xor (sym (add-zero (a * 2 ^ n))) (sym (add-zero (b * 2 ^ n)))
-    ∙ xor_block n a b 0 0 (pow_pos n) (pow_pos n)
-    ∙ add-zero (bit_xor a b * 2 ^ n)
+    simp add-zero at (xor_block n a b 0 0 (pow_pos n) (pow_pos n))
 
 up_one : (a n : ℕ) → a * 2 ^ n * 2 ≡ a * 2 ^ suc n
-up_one a n = mul_assoc a (2 ^ n) 2 ∙ ap (λ (x : ℕ). a * x) (sym (pow-suc 2 n))
+up_one a n = simp (mul_assoc, pow-suc)
 
 -- one step, for a register whose lowest bit is b
 one_step : (h b : ℕ) → b < 2 → bit_xor (h * 2 + b) (cond (eqb b 1) generator 0) ≡ bit_xor h (b * 0x82F63B78) * 2
-one_step h zero small =
-    xor_zero_r (h * 2 + 0) ∙ add-zero (h * 2) ∙ ap (λ (x : ℕ). x * 2) (sym (xor_zero_r h))
+one_step h zero small = simp (xor_zero_r, add-zero)
 one_step h (suc zero) small =
-    xor_block 1 h 0x82F63B78 1 1 (omega arith) (omega arith) ∙ add-zero (bit_xor h 0x82F63B78 * 2)
+    simp add-zero at (xor_block 1 h 0x82F63B78 1 1 (omega arith) (omega arith))
 one_step h (suc (suc b)) small = absurd (omega arith)
 
 low : ℕ → Bool
@@ -30,8 +27,7 @@ low r = eqb (r % 2) 1
 stepped : (r : ℕ) → bit_xor r (cond (low r) generator 0) ≡ shifted r * 2
 unfolding low shifted
 stepped r =
-    ap (λ (x : ℕ). bit_xor x (cond (eqb (r % 2) 1) generator 0)) (sym (div-add-mod' r 2))
-    ∙ one_step (r / 2) (r % 2) (omega arith)
+    rw div-add-mod' at (one_step (r / 2) (r % 2) (omega arith))
 
 -- n steps subtract a multiple of the generator, and leave the register n places up
 steps : (n r : ℕ) → (q : List Bool) × (length q ≡ n) × (bit_xor r (times q generator) ≡ shifted_by n r * 2 ^ n)
@@ -42,21 +38,15 @@ steps (suc n) r =
     let rest : ℕ = times s.0 generator in (
       low r ∷ s.0,
       ap suc s.1,
-      sym (xor_assoc r (cond (low r) generator 0) (rest * 2))
-          ∙ ap (λ (x : ℕ). bit_xor x (rest * 2)) (stepped r)
-          ∙ raised 1 (shifted r) rest
-          ∙ ap (λ (x : ℕ). x * 2) s.2
-          ∙ up_one (shifted_by n (shifted r)) n,
+      rw (← xor_assoc r (cond (low r) generator 0) (rest * 2), stepped r, raised 1 (shifted r) rest, s.2) (up_one (shifted_by n (shifted r)) n),
     )
 
 times_append : (p q : List Bool) (g : ℕ) → times (p ++ q) g ≡ bit_xor (times p g) (times q g * 2 ^ length p)
 unfolding times
 times_append [] q g = sym (mul-one (times q g))
 times_append (b ∷ p) q g =
-    ap (λ (x : ℕ). bit_xor (cond b g 0) (x * 2)) (times_append p q g)
-    ∙ ap (bit_xor (cond b g 0)) (sym (raised 1 (times p g) (times q g * 2 ^ length p)))
-    ∙ sym (xor_assoc (cond b g 0) (times p g * 2) (times q g * 2 ^ length p * 2))
-    ∙ ap (bit_xor (bit_xor (cond b g 0) (times p g * 2))) (up_one (times q g) (length p))
+    let up = raised 1 (times p g) (times q g * 2 ^ length p) in
+    rw (times_append p q g, ← up, up_one (times q g) (length p)) (sym (xor_assoc (cond b g 0) (times p g * 2) (times q g * 2 ^ suc (length p))))
 
 -- a byte x before a message of value v, where p was subtracted for the byte and q for the rest
 byte_first : (r x v p q s f n : ℕ) → x < 256 → bit_xor (bit_xor r x) p ≡ s * 2 ^ 8 → bit_xor (bit_xor s v) q ≡ f * 2 ^ (8 * n)

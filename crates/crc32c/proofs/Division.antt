@@ -1,6 +1,6 @@
 -- The register after all bytes is a remainder: each step subtracts the generator where the lowest bit is one.
 -- Assumes nothing.
-use Rattle.std.proofs.Common.{◌≡◌, ℕ, zero, suc, ◌+◌, ◌*◌, ◌/◌, ◌%◌, ◌^◌, ◌<◌, Bool, cond, eqb, List, [], ◌∷◌, ◌++◌, length, sym, refl, ap, ◌∙◌, subst, ap₂, add-zero, mul_assoc, mul_comm, add_comm, pow-suc, div-add-mod', mul-one, mul-suc, arith, pow_pos, pow-add}
+use Rattle.std.proofs.Common.{◌≡◌, ℕ, zero, suc, ◌+◌, ◌*◌, ◌/◌, ◌%◌, ◌^◌, ◌<◌, Bool, cond, eqb, List, [], ◌∷◌, ◌++◌, length, sym, refl, ap, ◌∙◌, subst, add-zero, mul_assoc, pow-suc, div-add-mod', mul-one, mul-suc, arith, pow_pos, pow-add}
 use Rattle.crc32c.proofs.Register.{xor_swap}
 use Rattle.crc32c.specs.Crc.{shifted, shifted_by, byte_in, fed, crc}
 use Rattle.crc32c.specs.Remainder.{Bytes, Division, Remainder, generator, times, value_of}
@@ -53,15 +53,9 @@ byte_first : (r x v p q s f n : ℕ) → x < 256 → bit_xor (bit_xor r x) p ≡
     → bit_xor (bit_xor r (x + 256 * v)) (bit_xor p (q * 2 ^ 8)) ≡ f * 2 ^ (8 * suc n)
 byte_first r x v p q s f n small first rest =
     let joined : x + 256 * v ≡ bit_xor x (v * 2 ^ 8)
-    = add_comm x (256 * v) ∙ ap (λ (y : ℕ). y + x) (mul_comm 256 v) ∙ sym (xor_shifted v 8 x small) ∙ xor_comm (v * 2 ^ 8) x in
-    ap (λ (y : ℕ). bit_xor (bit_xor r y) (bit_xor p (q * 2 ^ 8))) joined
-    ∙ ap (λ (y : ℕ). bit_xor y (bit_xor p (q * 2 ^ 8))) (sym (xor_assoc r x (v * 2 ^ 8)))
-    ∙ xor_swap (bit_xor r x) (v * 2 ^ 8) p (q * 2 ^ 8)
-    ∙ ap₂ bit_xor first (raised 8 v q)
-    ∙ raised 8 s (bit_xor v q)
-    ∙ ap (λ (y : ℕ). y * 2 ^ 8) (sym (xor_assoc s v q) ∙ rest)
-    ∙ mul_assoc f (2 ^ (8 * n)) (2 ^ 8)
-    ∙ ap (λ (y : ℕ). f * y) (sym (pow-add 2 (8 * n) 8) ∙ ap (λ (y : ℕ). 2 ^ y) (sym (mul-suc 8 n)))
+    = omega (arith, xor_shifted v 8 x small, xor_comm (v * 2 ^ 8) x) in
+    rw (joined, ← xor_assoc r x (v * 2 ^ 8), xor_swap (bit_xor r x) (v * 2 ^ 8) p (q * 2 ^ 8), first, raised 8 v q, raised 8 s (bit_xor v q), ← xor_assoc s v q, rest, mul-suc 8 n, pow-add 2 (8 * n) 8)
+    (mul_assoc f (2 ^ (8 * n)) (2 ^ 8))
 
 -- all bytes, from any register
 divided : (r : ℕ) (xs : List ℕ) → Bytes xs
@@ -72,11 +66,8 @@ divided r (x ∷ xs) bytes =
     let p = steps 8 (bit_xor r x) in
     let q = divided (byte_in r x) xs (λ i. bytes (suc i)) in (
       p.0 ++ q.0,
-      ap (bit_xor (bit_xor r (x + 256 * value_of xs)))
-          (times_append p.0 q.0 generator
-          ∙ ap (λ (n : ℕ). bit_xor (times p.0 generator) (times q.0 generator * 2 ^ n)) p.1)
-          ∙ byte_first r x (value_of xs) (times p.0 generator) (times q.0 generator)
-          (byte_in r x) (fed (byte_in r x) xs) (length xs) (bytes 0) p.2 q.1,
+      rw (times_append p.0 q.0 generator, p.1)
+          (byte_first r x (value_of xs) (times p.0 generator) (times q.0 generator) (byte_in r x) (fed (byte_in r x) xs) (length xs) (bytes 0) p.2 q.1),
     )
 
 -- the register stays a word

@@ -68,6 +68,7 @@ pub fn checksum(bytes: &[u8]) -> u32
 
 /// The published checksums of 32 zero bytes and of the digits 1 to 9. Its contract has these examples, and with them what
 /// a checksum means of any bytes: it is the complement of the remainder that the generator leaves.
+#[tactic(auto, using(crate::proofs::Division::division, crate::proofs::Worked::worked))]
 pub fn published() -> [u32; 2]
     ensures examples { WorkedExamples }
     ensures division { Division }

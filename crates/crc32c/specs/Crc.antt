@@ -1,7 +1,6 @@
 -- CRC-32C, bit by bit: what a register holds as bytes are fed to it, and the checksum that it gives.
 -- Assumes nothing.
-use Rattle.std.specs.Prelude.{◌≡◌, ℕ, zero, suc, ◌*◌, ◌/◌, ◌%◌, List, bit_xor}
-use Rattle.std.specs.List.{fold}
+use Rattle.std.specs.Prelude.{◌≡◌, ℕ, zero, suc, ◌*◌, ◌/◌, ◌%◌, List, bit_xor, fold}
 use Rattle.crc32c.specs.declared.Crc32c.{Crc32c}
 
 -- one bit: the register is halved, and where a one falls out the reflected polynomial is subtracted

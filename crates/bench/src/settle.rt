@@ -12,6 +12,8 @@ use crate::bench::Bench;
 use crate::rows::{READABLE, TORN, marked};
 use device::{PAYLOAD, PendingWrite};
 
+// The caller's bytes choose by these numbers. They are matched once, where an enum of choices would be made and used up at once.
+
 /// The number that keeps what is durable.
 pub const KEEP: u8 = 0;
 

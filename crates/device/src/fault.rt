@@ -20,6 +20,7 @@ pub enum Fault {
 
 impl Fault {
     /// The number that the fault goes by in documents and in programs' output.
+    // A method and no `From` for `u8`: its name says which number is meant.
     pub fn number(self) -> u8
         ensures { result ≡ number self }
     {

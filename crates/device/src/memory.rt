@@ -17,6 +17,7 @@ pub enum MemoryError {
 
 impl MemoryError {
     /// The number that the refusal goes by in documents and in programs' output.
+    // A method and no `From` for `u8`: its name says which number is meant.
     pub fn number(self) -> u8
         ensures { result ≡ number self }
     {

@@ -14,6 +14,7 @@ pub struct PendingWrite {
 
 impl PendingWrite {
     /// Copies the bytes out.
+    // An assignment would do; the call tells its caller too that what waits is a payload.
     pub fn copy_to(self, into: &mut [u8; PAYLOAD])
         ensures copied { into.new ≡ self.bytes }
         ensures payload { IsPayload self.bytes }

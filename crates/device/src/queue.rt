@@ -2,6 +2,7 @@
 ghost use Rattle.std.specs.Prelude.{◌≡◌, ◌+◌, ◌-◌, ◌<◌, ◌≤◌, [], ◌∷◌, ◌++◌, length, MatchOption, MatchResult, ◌==◌, slice_index_or, slice_set};
 
 /// A first-in first-out queue in the caller's places.
+// With its length beside the places: memory is the caller's here, nothing is allocated, and so no `VecDeque` serves.
 #[derive(Drop)]
 pub struct Queue<'a, T> {
     slots: &'a mut [T],

@@ -5,6 +5,7 @@ ghost use Rattle.media.specs.Refusals.{number};
 use thiserror::Error;
 
 /// What is wrong with the memory.
+// Not the type of the same name in `device`: no writes wait here, and whoever matches meets no case that never comes.
 #[derive(Clone, Copy, Debug, PartialEq, Eq, Error)]
 pub enum MemoryError {
     /// the memory does not end where a row ends
@@ -14,6 +15,7 @@ pub enum MemoryError {
 
 impl MemoryError {
     /// The number that the refusal goes by in documents and in programs' output.
+    // A method and no `From` for `u8`: its name says which number is meant.
     pub fn number(self) -> u8
         ensures { result ≡ number self }
     {

@@ -1,8 +1,7 @@
--- What a number chooses, as one more write waits; that it was possible; and which number chooses a possible content.
+-- What a number chooses; that it was possible; and which number chooses a possible content.
 -- Assumes nothing.
-use Rattle.std.proofs.Common.{◌≡◌, ℕ, zero, suc, ◌+◌, ◌-◌, ◌<◌, ◌≤◌, eqb, ltb, ◌⊎◌, List, [], ◌∷◌, ◌++◌, map, length, get_or, sym, refl, ap, ◌∙◌, subst, inl, inr, arith}
+use Rattle.std.proofs.Common.{◌≡◌, ℕ, zero, suc, ◌<◌, ◌≤◌, eqb, ltb, ◌⊎◌, List, [], ◌∷◌, map, length, get_or, sym, refl, ◌∙◌, subst, inl, inr, arith}
 use Rattle.std.proofs.lemmas.Bool.{cases_eq, cases_lt, eq-eqb, ne_eqb, lt-ltb, le-ltb, cond-true, cond-false}
-use Rattle.std.proofs.lemmas.List.{map-append, length-map, length-append, get_or_append_left, get_or-append_right, get_or_past}
 use Rattle.device.specs.Sector.{Content, torn}
 use Rattle.device.specs.Bytes.{content}
 use Rattle.device.specs.Waiting.{OneOf, MayLeave}
@@ -19,27 +18,6 @@ module _ {X : Type 0} (f : List ℕ → X) (t : X) (k : ℕ) (bs : List (List �
   -- any other
   pub chooses_one : (k ≡ 9 → ⊥) → choose f t k bs r ≡ get_or (r ∷ map f bs) k r
   chooses_one ne = cond-false (eqb k 9) _ _ (ne_eqb k 9 ne)
-
-module _ {X : Type 0} (f : List ℕ → X) (t : X) (k : ℕ) (bs : List (List ℕ)) (b : List ℕ) (r : X) where
-  more : get_or (r ∷ map f (bs ++ b ∷ [])) k r ≡ get_or ((r ∷ map f bs) ++ f b ∷ []) k r
-  more = ap (λ (z : List X). get_or (r ∷ z) k r) (map-append f bs (b ∷ []))
-
-  pub last_torn : k ≡ 9 → choose f t k (bs ++ b ∷ []) r ≡ t
-  last_torn e = chooses_torn f t k (bs ++ b ∷ []) r e (let l = length-append bs (b ∷ []) in omega arith)
-
-  -- the new one is chosen
-  pub last_taken : (k ≡ 9 → ⊥) → k ≡ length bs + 1 → choose f t k (bs ++ b ∷ []) r ≡ f b
-  last_taken ne e = chooses_one f t k (bs ++ b ∷ []) r ne ∙ more
-      ∙ get_or-append_right (r ∷ map f bs) (f b ∷ []) k k r (let l = length-map bs f in omega arith) (omega arith)
-      ∙ ap (λ (i : ℕ). get_or (f b ∷ []) i r) (let z : k - k ≡ 0 = omega arith in z)
-
-  -- it is not, and the choice is what it was
-  pub last_left : (k ≡ 9 → ⊥) → (k ≡ length bs + 1 → ⊥) → choose f t k (bs ++ b ∷ []) r ≡ choose f t k bs r
-  last_left ne other = chooses_one f t k (bs ++ b ∷ []) r ne ∙ more ∙ elim (cases_lt k (length bs + 1)) [
-    | inl h ↦ get_or_append_left (r ∷ map f bs) (f b ∷ []) r k (let l = length-map bs f in omega arith)
-    | inr h ↦ get_or_past ((r ∷ map f bs) ++ f b ∷ []) k r (let l = length-map bs f in let n = length-append (r ∷ map f bs) (f b ∷ []) in omega arith)
-        ∙ sym (get_or_past (r ∷ map f bs) k r (let l = length-map bs f in omega arith))
-  ] ∙ sym (chooses_one f t k bs r ne)
 
 -- what is chosen was possible
 one_chosen : (bs : List (List ℕ)) (k : ℕ) (c : Content) → (get_or (map content bs) k c ≡ c) ⊎ OneOf bs (get_or (map content bs) k c)

@@ -136,9 +136,6 @@ pub record SettlesBefore (i : ℕ) (cs : List ℕ) (ws : List PendingWrite) (m m
   pub rest_rows : (s : ℕ) → i ≤ s → row_in 61 m' s ≡ row_in 61 m s
   pub rest : (s : ℕ) → i ≤ s → durable m' s ≡ durable m s
 
-pub none_before : (cs : List ℕ) (ws : List PendingWrite) (m : List ℕ) → SettlesBefore 0 cs ws m m
-none_before cs ws m = record { long = refl; rows = λ s h. absurd (omega arith); contents = λ s h. absurd (omega arith); rest_rows = λ s h. refl; rest = λ s h. refl }
-
 module _ (i : ℕ) (cs : List ℕ) (ws : List PendingWrite) (m m₁ m₂ : List ℕ) (here : i < row_count 61 m) (g : SettlesBefore i cs ws m m₁) (one : SettlesAt (get_or cs i 0) i ws m₁ m₂) where
   same_count : row_count 61 m₁ ≡ row_count 61 m
   same_count = ap (λ (n : ℕ). min (n / 61) 4294967295) g.long

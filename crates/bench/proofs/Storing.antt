@@ -1,8 +1,10 @@
 -- Writes that wait are made durable, one or all.
 -- Assumes nothing.
-use Rattle.std.proofs.Common.{◌≡◌, ℕ, ◌<◌, ◌≤◌, Bool, true, false, cond, ltb, List, [], ◌∷◌, ◌++◌, length, take, drop, Ok, Err, Some, None, Option, MatchOption, MatchResult, append-nil, sym, refl, ap, ◌∙◌, subst, inl, inr, arith}
-use Rattle.std.proofs.lemmas.List.{length-drop}
-use Rattle.std.proofs.lemmas.Bool.{cases_lt, ltb-true, ltb-false, lt-ltb, le-ltb, cond-true, cond-false}
+use Rattle.std.proofs.Common.{◌≡◌, ℕ, ◌<◌, ◌≤◌, ltb, List, [], ◌∷◌, ◌++◌, length, take, drop, Ok, Err, Some, None, Option, MatchOption, MatchResult, append-nil, sym, refl, ap, ◌∙◌, subst, inl, inr, arith}
+use Rattle.device.specs.declared.queue.Queue.{Queue}
+use Rattle.device.specs.Queues.{waiting}
+use Rattle.device.proofs.Turned.{len_waiting}
+use Rattle.std.proofs.lemmas.Bool.{cases_lt, lt-ltb, le-ltb, cond-true, cond-false}
 use Rattle.device.specs.declared.fault.Fault.TheVariants.{NoSector}
 use Rattle.device.specs.declared.pending.PendingWrite.{PendingWrite}
 use Rattle.device.specs.Faults.{Answer}
@@ -10,12 +12,12 @@ use Rattle.device.specs.Sector.{payload, IsPayload}
 use Rattle.device.specs.Rules.{WriteCall, FlushCall}
 use Rattle.device.specs.Waiting.{waiting_at, youngest, Absent, NoneFor, Holds, room_in, with_waiting, Keeps}
 use Rattle.device.proofs.Lists.{absent_waiting, absent_append, waiting_append, youngest_append}
-use Rattle.device.proofs.Waits.{passed_on, past_dropped, flushed, accepted_flush, joins, keeps_write, write_keeps}
+use Rattle.device.proofs.Waits.{passed_on, past_dropped, flushed, accepted_flush, joins}
 use Rattle.device.specs.Memory.{row_count, with_row}
 use Rattle.device.proofs.Lasting.{row_written}
 use Rattle.bench.specs.Rows.{readable, row_holds, rows_mean}
 use Rattle.bench.proofs.Marking.{readable_long, holds_readable}
-use Rattle.bench.specs.Waits.{MakesDurable, LetsWait, stored, stored_all, room_made}
+use Rattle.bench.specs.Waits.{MakesDurable, stored, stored_all, room_made}
 
 -- putting the write's row makes it durable
 pub durable_made : (w : PendingWrite) (m m' r : List ℕ) (a : Answer) → IsPayload w.bytes → r ≡ readable w.bytes
@@ -92,37 +94,10 @@ all_flushed ws ws₁ ws₂ m m₁ m₂ e e₁ e₂ s k =
 pub lets_join : (w : PendingWrite) (ws ws' : List PendingWrite) (m : List ℕ) → IsPayload w.bytes → ws' ≡ ws ++ w ∷ [] → w.sector < row_count 61 m → WriteCall w.sector w.bytes (Ok tt) (with_waiting ws (rows_mean m)) (with_waiting ws' (rows_mean m))
 lets_join w ws ws' m is e h = subst (λ (z : List PendingWrite). WriteCall w.sector w.bytes (Ok tt) (with_waiting ws (rows_mean m)) (with_waiting z (rows_mean m))) (sym e) (joins ws (rows_mean m) w h is refl)
 
--- all that waited became durable, and then the write itself
-pub lets_last : (w : PendingWrite) (ws ws₁ ws₂ : List PendingWrite) (m m₁ m₂ : List ℕ) → ws₁ ≡ [] → ws₂ ≡ ws₁ → Keeps (with_waiting ws (rows_mean m)) (with_waiting ws₁ (rows_mean m₁)) → MakesDurable w m₁ m₂ → w.sector < row_count 61 m
-    → WriteCall w.sector w.bytes (Ok tt) (with_waiting ws (rows_mean m)) (with_waiting ws₂ (rows_mean m₂))
-lets_last w ws ws₁ ws₂ m m₁ m₂ e₁ e₂ k d h =
-    let k₁ = subst (λ (z : List PendingWrite). Keeps (with_waiting ws (rows_mean m)) (with_waiting z (rows_mean m₁))) e₁ k in
-    subst (λ (z : List PendingWrite). WriteCall w.sector w.bytes (Ok tt) (with_waiting ws (rows_mean m)) (with_waiting z (rows_mean m₂))) (sym (e₂ ∙ e₁))
-    (keeps_write w.sector w.bytes (with_waiting ws (rows_mean m)) (with_waiting [] (rows_mean m₁)) (with_waiting [] (rows_mean m₂)) refl k₁
-    (write_keeps w.sector w.bytes (with_waiting [] (rows_mean m₁)) (with_waiting (w ∷ []) (rows_mean m₁)) (with_waiting [] (rows_mean m₂)) refl refl
-    (joins [] (rows_mean m₁) w (subst (λ (n : ℕ). w.sector < n) (sym k₁.count) h) d.whole refl) (made_keeps w m₁ m₂ d [])))
-
--- with eight places, there is one once room was made
-room_fits : (t : Bool) (ws : List PendingWrite) (p : ℕ) → ltb (length ws) 8 ≡ t → 8 ≤ p → length ws ≤ p → length (cond t ws (drop 1 ws)) < p
-room_fits true ws p e h k = let l = ltb-true (length ws) 8 e in omega arith
-room_fits false ws p e h k = let l = ltb-false (length ws) 8 e in let n = length-drop 1 ws in omega arith
-
-room_few : (t : Bool) (ws : List PendingWrite) → ltb (length ws) 8 ≡ t → length ws ≤ 8 → length (cond t ws (drop 1 ws)) < 8
-room_few true ws e k = ltb-true (length ws) 8 e
-room_few false ws e k = let l = ltb-false (length ws) 8 e in let n = length-drop 1 ws in omega arith
-
--- room is made, and the write takes it
-module _ (w : PendingWrite) (ws ws₁ ws₂ : List PendingWrite) (p p₁ : ℕ) (m m₁ m₂ : List ℕ) (fits : length ws ≤ p) (same : p₁ ≡ p) (gone : ws₁ ≡ room_in ws) (made : m₁ ≡ room_made ws m)
-    (joined : length ws₁ < p₁ → (ws₂ ≡ ws₁ ++ w ∷ []) × (m₂ ≡ m₁)) (few : length ws₁ < 8 → length ws₂ ≤ 8) where
-  one_place : 8 ≤ p → length ws₁ < p₁
-  one_place h = let r = room_fits (ltb (length ws) 8) ws p refl h fits in let e = ap length gone in omega arith
-
-  pub lets_wait : LetsWait w ws ws₂ p m m₂
-  lets_wait = record {
-    pending = λ h. (joined (one_place h)).0 ∙ ap (λ (z : List PendingWrite). z ++ w ∷ []) gone;
-    memory = λ h. (joined (one_place h)).1 ∙ made;
-    few = λ h. let r = room_few (ltb (length ws) 8) ws refl h in few (let e = ap length gone in omega arith);
-  }
+-- one fewer waits once the oldest was taken, and none more if none was
+pub taken_few : (q q' : Queue PendingWrite) (r : Option PendingWrite) → MatchOption r ((waiting q ≡ []) × (q' ≡ q)) (λ x. waiting q ≡ x ∷ waiting q') → q.len ≤ 8 → q'.len ≤ 8
+taken_few q q' None e h = subst (λ (z : Queue PendingWrite). z.len ≤ 8) (sym e.1) h
+taken_few q q' (Some x) e h = let k = ap length e in let l = len_waiting q in let l' = len_waiting q' in omega arith
 
 -- The youngest write to a sector among xs and then ys: that among ys, or else that among xs.
 pub first_piece : (s : ℕ) (ws xs ys : List PendingWrite) → ws ≡ xs ++ ys → (r : Option PendingWrite) → Absent s ys → MatchOption r (Absent s xs) (λ w. IsPayload w.bytes → Holds s w.bytes xs)

@@ -29,13 +29,12 @@ stored_all (w ∷ ws) m = stored_all ws (stored w m)
 abbrev pub room_made : List PendingWrite → List ℕ → List ℕ
 room_made ws m = cond (nat_lt (length ws) 8) m (stored_all (take 1 ws) m)
 
--- The write w joins those that wait in front of memory m, for which there are p places: it is then the youngest of at most eight.
-pub record LetsWait (w : PendingWrite) (ws ws' : List PendingWrite) (p : ℕ) (m m' : List ℕ) : Type 0 where
-  pub pending : 8 ≤ p → ws' ≡ room_in ws ++ w ∷ []
-  pub memory : 8 ≤ p → m' ≡ room_made ws m
-  pub few : length ws ≤ 8 → length ws' ≤ 8
+-- the write w joins those that wait in front of memory m, as the youngest
+pub record LetsWait (w : PendingWrite) (ws ws' : List PendingWrite) (m m' : List ℕ) : Type 0 where
+  pub pending : ws' ≡ room_in ws ++ w ∷ []
+  pub memory : m' ≡ room_made ws m
 
 -- what a write of b to sector s leaves: accepted, it waits; refused, all is as it was
-abbrev pub WaitsAfter : ℕ → List ℕ → Answer → List PendingWrite → List PendingWrite → ℕ → List ℕ → List ℕ → Type 0
-WaitsAfter s b (Ok _) ws ws' p m m' = LetsWait (record { sector = s; bytes = b }) ws ws' p m m'
-WaitsAfter s b (Err _) ws ws' p m m' = (ws' ≡ ws) × (m' ≡ m)
+abbrev pub WaitsAfter : ℕ → List ℕ → Answer → List PendingWrite → List PendingWrite → List ℕ → List ℕ → Type 0
+WaitsAfter s b (Ok _) ws ws' m m' = LetsWait (record { sector = s; bytes = b }) ws ws' m m'
+WaitsAfter s b (Err _) ws ws' m m' = (ws' ≡ ws) × (m' ≡ m)

@@ -5,7 +5,6 @@ ghost use Rattle.device.specs.Rules.{ReadCall, WriteCall, FlushCall};
 ghost use Rattle.device.specs.Memory.{row_count};
 ghost use Rattle.device.specs.Waiting.{Absent, NoneFor, Holds, Keeps, room_in, laws_waiting};
 ghost use Rattle.bench.specs.Rows.{rows_mean, rows_laws};
-ghost use Rattle.bench.specs.Benches.{Made, Refuses, SamePlaces, means, memory, queued, room_for};
 ghost use Rattle.bench.specs.Waits.{MakesDurable, LetsWait, WaitsAfter, stored_all, room_made};
 
 use crate::rows::{READABLE, ROW, marked, payload_of};
@@ -14,14 +13,19 @@ use device::{Device, Fault, MemoryError, PAYLOAD, PendingWrite, Queue, Rows, you
 /// How many writes wait at most.
 pub const WAITING: usize = 8;
 
-/// A device over rows of the caller's memory, with writes that wait in the caller's places.
+/// A device over rows of the caller's memory, with writes that wait in the caller's places: never more than eight, and there is
+/// room for so many.
 #[derive(Drop)]
 pub struct Bench<'a> {
     pub(crate) rows: Rows<'a, ROW>,
     pub(crate) pending: Queue<'a, PendingWrite>,
+    pub ghost few: { pending.len ≤ 8 },
+    pub ghost room: { 8 ≤ length pending.slots.now },
 }
 
 impl<'a> Bench<'a> {
+    ghost use Rattle.bench.specs.Benches.{Made, Refuses};
+
     /// A device over this memory, as it stands, with nothing waiting. Refused if the memory is not whole rows, or if there are
     /// places for fewer than eight writes.
     pub fn new(rows: &'a mut [u8], slots: &'a mut [PendingWrite]) -> Result<Bench<'a>, MemoryError>
@@ -46,6 +50,8 @@ impl<'a> Bench<'a> {
 }
 
 impl Bench<'_> {
+    ghost use Rattle.bench.specs.Benches.{SamePlaces, means, memory, queued, room_for};
+
     // Makes a write durable. A sector that is not there is passed over.
     fn put(&mut self, write: PendingWrite)
         ensures memory { MakesDurable write (memory self.old) (memory self.new) }
@@ -94,27 +100,14 @@ impl Bench<'_> {
         }
     }
 
-    // Lets one more wait. Where no place is left, which a bench with room for eight never sees, all becomes durable at once.
-    fn append(&mut self, write: PendingWrite)
-        ensures rules { IsPayload write.bytes → write.sector < row_count 61 (memory self.old) → WriteCall write.sector write.bytes (Ok tt) (means self.old) (means self.new) }
-        ensures joined { length (queued self.old) < room_for self.old → (queued self.new ≡ queued self.old ++ write ∷ []) × (memory self.new ≡ memory self.old) }
-        ensures few { length (queued self.old) < 8 → length (queued self.new) ≤ 8 }
-        ensures same { SamePlaces self.old self.new }
-    {
-        if let Err(write) = self.pending.push(write) {
-            self.put_all();
-            self.put(write);
-        }
-    }
-
     // Lets a write wait, behind all others.
     fn let_wait(&mut self, write: PendingWrite)
         ensures rules { IsPayload write.bytes → write.sector < row_count 61 (memory self.old) → WriteCall write.sector write.bytes (Ok tt) (means self.old) (means self.new) }
-        ensures waits { LetsWait write (queued self.old) (queued self.new) (room_for self.old) (memory self.old) (memory self.new) }
+        ensures waits { LetsWait write (queued self.old) (queued self.new) (memory self.old) (memory self.new) }
         ensures same { SamePlaces self.old self.new }
     {
         self.make_room();
-        self.append(write);
+        self.pending.push(write).unwrap(); // a place is free
     }
 
     // The youngest write that waits for the sector.
@@ -138,6 +131,8 @@ fn last_to(writes: &[PendingWrite], sector: u32) -> Option<PendingWrite>
 }
 
 impl<'a> Device for Bench<'a> {
+    ghost use Rattle.bench.specs.Benches.{SamePlaces, means, memory, queued};
+
     ghost means = { means };
 
     ghost laws = { λ d. laws_waiting (queued d) (rows_mean (memory d)) (rows_laws (memory d)) };
@@ -165,7 +160,7 @@ impl<'a> Device for Bench<'a> {
 
     fn write(&mut self, sector: u32, bytes: &[u8; PAYLOAD]) -> Result<(), Fault>
         ensures rules { WriteCall sector bytes.now result (means self.old) (means self.new) }
-        ensures waits { WaitsAfter sector bytes.now result (queued self.old) (queued self.new) (room_for self.old) (memory self.old) (memory self.new) }
+        ensures waits { WaitsAfter sector bytes.now result (queued self.old) (queued self.new) (memory self.old) (memory self.new) }
         ensures same { SamePlaces self.old self.new }
     {
         self.rows.get(sector)?;

@@ -28,7 +28,7 @@ impl Bench<'_> {
         ensures current { (s : ℕ) → (means self.new).current s ≡ chosen (slice_index numbers.now s) (waiting_at (row_count 61 (memory self.old)) (queued self.old) s) (durable (memory self.old) s) }
         ensures only { Settled (means self.new).current (means self.new).possible }
         ensures found { Found (means self.old).possible (means self.new).current }
-        ensures reaches { length (queued self.old) ≤ 8 → Reaches (queued self.old) (memory self.old) }
+        ensures reaches { Reaches (queued self.old) (memory self.old) }
         ensures pending { queued self.new ≡ [] }
         ensures same { SamePlaces self.old self.new }
     {

@@ -1,6 +1,6 @@
 -- Rows of memory of any length: what a write to one leaves; and the rules of a write that lasts at once.
 -- Assumes nothing.
-use Rattle.std.proofs.Common.{◌≡◌, ℕ, zero, suc, ◌+◌, ◌-◌, ◌*◌, ◌/◌, ◌<◌, ◌≤◌, min, true, ◌⊎◌, List, [], ◌∷◌, ◌++◌, length, get_or, take, drop, Ok, Err, MatchResult, sym, refl, ap, ap₂, ◌∙◌, subst, inl, inr, mul-le-mul_right, suc-mul, div-mul-le_self, arith}
+use Rattle.std.proofs.Common.{◌≡◌, ℕ, zero, suc, ◌+◌, ◌-◌, ◌*◌, ◌/◌, ◌<◌, ◌≤◌, min, ◌⊎◌, List, [], ◌∷◌, ◌++◌, length, get_or, take, drop, Ok, Err, MatchResult, sym, refl, ap, ap₂, ◌∙◌, subst, inl, inr, mul-le-mul_right, suc-mul, div-mul-le_self, arith}
 use borrow.Rule.Slice.PartMut.{put_mid}
 use Rattle.std.proofs.lemmas.Bool.{cases_order}
 use Rattle.std.proofs.lemmas.Slice.{put_mid-paste}
@@ -30,10 +30,6 @@ take_bytes zero xs h i = omega arith
 take_bytes (suc n) [] h i = omega arith
 take_bytes (suc n) (x ∷ xs) h zero = h 0
 take_bytes (suc n) (x ∷ xs) h (suc i) = take_bytes n xs (λ j. h (suc j)) i
-
-pub row_bytes : (w : ℕ) (m : List ℕ) (s : ℕ) → ((i : ℕ) → get_or m i 0 < 256) → (i : ℕ) → get_or (row_in w m s) i 0 < 256
-unfolding row_in
-row_bytes w m s h = take_bytes w (drop (s * w) m) (λ i. let k = h (s * w + i) in let e = get_or-drop (s * w) m i 0 in omega arith)
 
 pub row_long : (w : ℕ) (m : List ℕ) (s : ℕ) → s * w + w ≤ length m → length (row_in w m s) ≡ w
 unfolding row_in

@@ -1,7 +1,7 @@
 -- The bytes that wait for one sector, as writes join, leave and are replaced.
 -- Assumes nothing.
-use Rattle.std.proofs.Common.{◌≡◌, ℕ, zero, suc, ◌+◌, ◌<◌, ◌≤◌, ◌&&◌, eqb, ltb, ◌⊎◌, List, [], ◌∷◌, ◌++◌, length, drop, sym, refl, ap, ◌∙◌, subst, inl, inr, arith}
-use Rattle.std.proofs.lemmas.List.{drop_more, drop_all}
+use Rattle.std.proofs.Common.{◌≡◌, ℕ, zero, suc, ◌+◌, ◌<◌, ◌≤◌, ◌&&◌, eqb, ltb, ◌⊎◌, List, [], ◌∷◌, ◌++◌, length, drop, sym, refl, ap, ◌∙◌, inl, inr, arith}
+use Rattle.std.proofs.lemmas.List.{drop_more}
 use Rattle.std.proofs.lemmas.Bool.{cases_Bool, cases_eq, and_from, and_right, eq-eqb, ne_eqb, lt-ltb, le-ltb, cond-true, cond-false}
 use Rattle.device.specs.declared.pending.PendingWrite.{PendingWrite}
 use Rattle.device.specs.Sector.{Content, torn}
@@ -32,10 +32,6 @@ unfolding waiting_at
 absent_waiting s [] h n = refl
 absent_waiting s (w ∷ ws) h n = first_there n w ws s h.0 ∙ absent_waiting s ws h.1 n
 
--- none stands past the end
-pub absent_past : (s : ℕ) (ws : List PendingWrite) (n : ℕ) → length ws ≤ n → Absent s (drop n ws)
-absent_past s ws n h = subst (Absent s) (sym (drop_all n ws h)) tt
-
 -- what no place has from k on is absent from there on
 pub absent_from : (s : ℕ) (ws : List PendingWrite) (k : ℕ) → NoneFrom s ws k → Absent s (drop k ws)
 absent_from s [] zero h = tt
@@ -53,9 +49,6 @@ absent_append s (x ∷ xs) ys g h = (g.0, absent_append s xs ys g.1 h)
 -- those from place j on, where w stands
 pub from_place : (ws : List PendingWrite) (j k : ℕ) (w : PendingWrite) → k ≡ j + 1 → At ws j w → drop j ws ≡ w ∷ drop k ws
 from_place ws j k w e h = drop_more ws j w h.0 ∙ ap (λ (v : PendingWrite). v ∷ drop (j + 1) ws) (h.1 w) ∙ ap (λ (i : ℕ). w ∷ drop i ws) (sym e)
-
-pub absent_more : (s : ℕ) (ws : List PendingWrite) (j k : ℕ) (w : PendingWrite) → k ≡ j + 1 → At ws j w → (w.sector ≡ s → ⊥) → Absent s (drop k ws) → Absent s (drop j ws)
-absent_more s ws j k w e h ne a = subst (Absent s) (sym (from_place ws j k w e h)) (ne, a)
 
 pub waiting_append : (n : ℕ) (xs ys : List PendingWrite) (s : ℕ) → waiting_at n (xs ++ ys) s ≡ waiting_at n xs s ++ waiting_at n ys s
 unfolding waiting_at

@@ -1,10 +1,11 @@
 -- A ring of places, turned so that its oldest comes first: how many it holds, one more in it, what stands in it, and what it
 -- holds without its oldest. Assumes nothing.
-use Rattle.std.proofs.Common.{◌≡◌, ℕ, suc, ◌+◌, ◌-◌, ◌<◌, ◌≤◌, List, [], ◌∷◌, ◌++◌, length, get_or, take, drop, set, sym, refl, ap, ◌∙◌, inl, inr, append_assoc, append-nil, add-zero, add-one, arith}
+use Rattle.std.proofs.Common.{◌≡◌, ℕ, suc, ◌+◌, ◌-◌, ◌<◌, ◌≤◌, List, [], ◌∷◌, ◌++◌, length, get_or, take, drop, set, sym, ap, ◌∙◌, inl, inr, append_assoc, append-nil, add-zero, add-one, arith}
 use lib.Seq.{take-set-lt}
-use Rattle.std.proofs.lemmas.List.{take-set-le, drop-set-add, drop-set-lt, set-append_left, set-append_right, take_more_set, take_more, drop_more, length-append, length-drop, length-set, length-take-le, take-append-le, take_all, drop_all, get_or_append_left, get_or-append_right, get_or-take, get_or-drop, get_or_default}
+use Rattle.std.proofs.lemmas.List.{take-set-le, drop-set-add, drop-set-lt, set-append_left, set-append_right, take_more_set, take_more, drop_more, length-append, length-drop, length-take-le, take-append-le, take_all, drop_all, get_or_append_left, get_or-append_right, get_or-take, get_or-drop}
 use Rattle.std.proofs.lemmas.Bool.{cases_lt}
-use Rattle.device.specs.Queues.{ring}
+use Rattle.device.specs.declared.queue.Queue.{Queue}
+use Rattle.device.specs.Queues.{ring, waiting}
 
 module _ {X : Type 0} where
   unfoldable turned : List X → ℕ → List X
@@ -114,9 +115,6 @@ module _ {X : Type 0} where
     pub reads_near : (k n : ℕ) (d : X) → f + n < length xs → n < k → get_or (ring xs f k) n d ≡ get_or xs (f + n) d
     reads_near k n d h = reads xs f k n (f + n) d (stands_near xs f n h)
 
-    pub reads_round : (k n at : ℕ) (d : X) → at < f → f ≤ length xs → at + length xs ≡ f + n → n < k → get_or (ring xs f k) n d ≡ get_or xs at d
-    reads_round k n at d h l e = reads xs f k n at d (stands_round xs f n at h l e)
-
     -- the oldest
     oldest : (k : ℕ) (x : X) → f < length xs → 0 < k → get_or (ring xs f k) 0 x ≡ get_or xs f x
     oldest k x h l = reads_near k 0 x (omega arith) l ∙ ap (λ (z : ℕ). get_or xs z x) (add-zero f)
@@ -135,3 +133,7 @@ module _ {X : Type 0} where
         ap (ring xs f) (omega arith)
         ∙ rest_of xs f 0 (k - 1) x h (omega arith) (t ∙ one_more xs f x h)
         ∙ ap (λ (z : X). z ∷ ring xs 0 (k - 1)) (sym (oldest k x h l))
+
+-- a queue counts those that wait
+pub len_waiting : {X : Type 0} (q : Queue X) → length (waiting q) ≡ q.len
+len_waiting q = length_ring q.slots.now q.first q.len q.fits

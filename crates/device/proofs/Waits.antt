@@ -3,14 +3,14 @@
 use Rattle.std.proofs.Common.{◌≡◌, ℕ, ◌+◌, ◌<◌, ◌≤◌, true, ◌⊎◌, List, [], ◌∷◌, ◌++◌, length, take, drop, Ok, Err, sym, refl, ap, ◌∙◌, subst, inl, inr, append-nil, arith}
 use Rattle.std.proofs.lemmas.List.{take-append-drop}
 use Rattle.std.proofs.lemmas.Bool.{cases_eq, cases_Bool, both_ways}
-use Rattle.device.specs.declared.fault.Fault.TheVariants.{Off, NoSector}
+use Rattle.device.specs.declared.fault.Fault.TheVariants.{NoSector}
 use Rattle.device.specs.declared.pending.PendingWrite.{PendingWrite}
 use Rattle.device.specs.Faults.{Answer, returned}
 use Rattle.device.specs.Sector.{Content, torn, Image, Possible, IsPayload}
 use Rattle.device.specs.Bytes.{content, payload_content}
-use Rattle.device.specs.Rules.{Meaning, NoneAdded, Puts, Gains, ReadCall, WriteCall, FlushCall}
+use Rattle.device.specs.Rules.{Meaning, NoneAdded, Puts, Gains, WriteCall, FlushCall}
 use Rattle.device.specs.Queues.{At}
-use Rattle.device.specs.Waiting.{waiting_at, youngest, OneOf, MayLeave, shown, may, with_waiting, Absent, Holds, Keeps, Cut, Untouched}
+use Rattle.device.specs.Waiting.{waiting_at, youngest, OneOf, MayLeave, shown, may, with_waiting, Absent, Holds, Keeps, Untouched}
 use Rattle.device.proofs.Calls.{accepted_below, write_gains}
 use Rattle.device.proofs.Lists.{first_here, first_there, first_past, absent_waiting, from_place, waiting_append, youngest_last, leave_last, leave_replaced, leave_first, leave_map}
 
@@ -50,26 +50,6 @@ accepted_flush m m' on on' count f p = record {
   power = on';
   flushes = record { answers = inl refl; current = λ _. f; settled = λ _. p };
   cut = λ z. absurd (omega arith);
-}
-
--- a write or a flush within which the device turned off, and which added nothing
-pub cut_write : (s : ℕ) (b : List ℕ) (m m' : Meaning) → Cut m m' → WriteCall s b (Err Off) m m'
-cut_write s b m m' k = record {
-  count = k.count;
-  numbered = record { past = λ _. inr refl; below = λ _ z. omega arith };
-  off = record { stays = λ _. k.off; answers = λ _. refl; added = λ _. k.added };
-  power = k.off;
-  writes = record { answers = λ _. inr refl; puts = λ z. absurd (omega arith); gains = λ z. absurd (omega arith); refused = λ z. absurd (omega arith) };
-  cut = λ _. record { here = λ c h. inl (k.added s c h); there = λ t c _ h. k.added t c h };
-}
-
-pub cut_flush : (m m' : Meaning) → Cut m m' → FlushCall (Err Off) m m'
-cut_flush m m' k = record {
-  count = k.count;
-  off = record { stays = λ _. k.off; answers = λ _. refl; added = λ _. k.added };
-  power = k.off;
-  flushes = record { answers = inr refl; current = λ z. absurd (omega arith); settled = λ z. absurd (omega arith) };
-  cut = λ _. k.added;
 }
 
 -- what keeps the contents may come before an accepted write, before a flush, or before what keeps them again
@@ -118,14 +98,6 @@ flushed ws m m₁ m₂ r k c ok = accepted_flush (with_waiting ws m) (with_waiti
     settled s d (inl h) = c.flushes.settled ok s d h
     settled s d (inr (inl h)) = elim h [ ]
     settled s d (inr (inr h)) = let x = h.0 in absurd (omega arith)
-
--- all that waited is passed on, and the device below turns off within its flush: all waits on
-pub flush_cut : (ws : List PendingWrite) (m m₁ m₂ : Meaning) (r : Answer) → Keeps (with_waiting ws m) (with_waiting [] m₁) → FlushCall r m₁ m₂ → returned r ≡ 1 → Cut (with_waiting ws m) (with_waiting ws m₂)
-flush_cut ws m m₁ m₂ r k c off = record {
-  count = c.count ∙ k.count;
-  off = c.power ∙ rw off;
-  added = waits_on ws m m₂ (c.count ∙ k.count) (λ s d h. k.added s d (inl (c.cut off s d h)));
-}
 
 -- One write joins those that wait, as the youngest.
 module _ (ws : List PendingWrite) (m : Meaning) (w : PendingWrite) (here : w.sector < m.count) (is : IsPayload w.bytes) where
@@ -227,32 +199,6 @@ past_dropped w ws m m' h u = record {
       (leave_map (waiting_at m.count ws t) (m.possible t) (m'.possible t) d (u.contents.added t d) (subst (λ (n : ℕ). may n ws m'.possible t d) u.count k));
 }
 
--- a read of a sector for which nothing waits is one of the device below
-pub read_below : (s : ℕ) (x y : List ℕ) (r : Answer) (ws : List PendingWrite) (m m' : Meaning) → waiting_at m.count ws s ≡ [] → ReadCall s x y r m m' → ReadCall s x y r (with_waiting ws m) (with_waiting ws m')
-read_below s x y r ws m m' none c = record {
-  count = c.count;
-  numbered = record { past = c.numbered.past; below = c.numbered.below };
-  off = record { stays = c.off.stays; answers = c.off.answers; added = λ z. added (c.off.added z) };
-  power = c.power;
-  reads = record {
-    copied = λ z. bare ∙ c.reads.copied z;
-    unreadable = λ z. ((c.reads.unreadable z).0, bare ∙ (c.reads.unreadable z).1);
-    left = c.reads.left;
-    unchanged = λ z. let u = c.reads.unchanged z in record {
-      current = λ t. ap (λ (n : ℕ). shown n ws m'.current t) c.count ∙ ap (youngest (waiting_at m.count ws t)) (u.current t);
-      added = added u.added;
-      lost = λ t d h. subst (λ (n : ℕ). may n ws m'.possible t d) (sym c.count) (leave_map (waiting_at m.count ws t) (m'.possible t) (m.possible t) d (u.lost t d) h);
-    };
-  };
-  cut = λ z. added (c.cut z);
-}
-  where
-    bare : shown m.count ws m.current s ≡ m.current s
-    bare = ap (λ (z : List (List ℕ)). youngest z (m.current s)) none
-
-    added : NoneAdded m.possible m'.possible → NoneAdded (with_waiting ws m).possible (with_waiting ws m').possible
-    added n t d h = leave_map (waiting_at m.count ws t) (m.possible t) (m'.possible t) d (n t d) (subst (λ (k : ℕ). may k ws m'.possible t d) c.count h)
-
 -- the youngest write to a sector is what it holds
 pub split_holds : (s : ℕ) (ws before after : List PendingWrite) (w : PendingWrite) → ws ≡ before ++ w ∷ after → w.sector ≡ s → Absent s after → IsPayload w.bytes → Holds s w.bytes ws
 split_holds s ws before after w e same last is n c h =
@@ -264,9 +210,3 @@ split_holds s ws before after w e same last is n c h =
 pub place_holds : (s : ℕ) (ws : List PendingWrite) (j k : ℕ) (w : PendingWrite) → k ≡ j + 1 → At ws j w → w.sector ≡ s → Absent s (drop k ws) → IsPayload w.bytes → Holds s w.bytes ws
 place_holds s ws j k w e h same last is = split_holds s ws (take j ws) (drop k ws) w
     (sym (take-append-drop j ws) ∙ ap (λ (z : List PendingWrite). take j ws ++ z) (from_place ws j k w e h)) same last is
-
--- an accepted write, and then what keeps the contents
-pub write_keeps : (s : ℕ) (b : List ℕ) (m m₁ m₂ : Meaning) → m.on ≡ true → m₂.on ≡ true → WriteCall s b (Ok tt) m m₁ → Keeps m₁ m₂ → WriteCall s b (Ok tt) m m₂
-write_keeps s b m m₁ m₂ on on' w k = accepted_write s b m m₂ on on' (k.count ∙ w.count) (accepted_below s (Ok tt) m w.numbered refl)
-    (record { here = k.current s ∙ (w.writes.puts refl).here; there = λ t ne. k.current t ∙ (w.writes.puts refl).there t ne })
-    (record { here = λ c h. (w.writes.gains refl).here c (k.added s c h); there = λ t c ne h. (w.writes.gains refl).there t c ne (k.added t c h) })

@@ -6,7 +6,7 @@ ghost use Rattle.device.specs.Waiting.{NoneFrom, YoungestAt};
 use crate::PAYLOAD;
 
 /// A sector and the bytes that are to be written there. It is a plain value: whoever keeps some decides what they mean.
-#[derive(Clone, Copy, Default)]
+#[derive(Clone, Copy, Debug, Default)]
 pub struct PendingWrite {
     pub sector: u32,
     pub bytes: [u8; PAYLOAD],

@@ -4,6 +4,7 @@ use Rattle.std.proofs.Common.{ℕ, length, get_or, ap, ◌∙◌, subst, arith}
 use Rattle.device.specs.declared.pending.PendingWrite.{PendingWrite}
 use Rattle.device.specs.declared.queue.Queue.{Queue}
 use Rattle.device.specs.Queues.{waiting, places}
+use Rattle.device.proofs.Turned.{len_waiting}
 use Rattle.bench.specs.Benches.{memory, queued}
 use Rattle.bench.specs.Settling.{SettlesAt}
 use Rattle.bench.proofs.Settled.{one_more_before, all_settled, settled_current, settled_only, settled_found, reaches}
@@ -35,7 +36,7 @@ returns c =
       current = settled_current cs ws _ m _ empty all;
       only = settled_only cs ws _ m _ empty all;
       found = settled_found cs ws _ m _ empty all;
-      reaches = reaches ws m;
+      reaches = reaches ws m (let q = c.args.self.now in omega (arith, q.few, len_waiting q.pending));
       pending = empty;
       same = record {
         rows = inv.same;

@@ -1,6 +1,6 @@
 -- The places from the oldest on, and as many of those before it as are still to come.
 -- Assumes nothing.
-use Rattle.std.proofs.Common.{ℕ, List, ◌++◌, take, sym, ap, ap₂, ◌∙◌, arith}
+use Rattle.std.proofs.Common.{ℕ, ◌++◌, take, sym, ap, ap₂, ◌∙◌, arith}
 use Rattle.std.proofs.Math.Seq.{take-append-add}
 use Rattle.device.proofs.queue.Queue.as_slices.Goals as goal
 

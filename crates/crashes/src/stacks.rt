@@ -92,10 +92,13 @@ fn gives<D: Device>(device: &mut D, sector: u32, content: Content) -> bool {
 }
 
 // Whether the sectors are found so.
-fn are_found<D: Device>(device: &mut D, contents: [Content; SECTORS]) -> bool {
-    (0..)
-        .zip(contents)
-        .all(|(sector, content)| gives(device, sector, content))
+fn are_found<D: Device>(device: &mut D, contents: &[Content; SECTORS]) -> bool {
+    for (sector, content) in (0..).zip(contents) {
+        if !gives(device, sector, *content) {
+            return false;
+        }
+    }
+    true
 }
 
 // Whether every call is refused since the device is off, also for a sector that is not there.
@@ -187,7 +190,7 @@ fn is_left(calls: u32, cut: Option<LastWrite>, number: u8) -> Result<bool, Fail>
         return Ok(false);
     };
     bench.settle(&[number; SECTORS]);
-    Ok(are_found(&mut bench, left_below(reached(calls, cut), number)))
+    Ok(are_found(&mut bench, &left_below(reached(calls, cut), number)))
 }
 
 #[test]

@@ -137,15 +137,14 @@ const BENCH: usize = 12 * bench::ROW;
 fn row_images_meet_the_table(rt: HostRuntime) -> Result<(), Fail> {
     let mut memory = [0; IMAGE];
     let image = RowImage::new(&mut memory)?;
-    assert!(rt; image.is_on());
-    assert_eq!(rt; image.count(), 12);
-    assert_eq!(rt; first_wrong(image), None);
-    assert_eq!(rt; wrong_when_cached(RowImage::new(&mut [0; IMAGE])?), None);
-    assert_eq!(rt; wrong_when_switched(RowImage::new(&mut [0; IMAGE])?), None);
-    assert_eq!(rt;
+    assert!(rt; image.is_on() && image.count() == 12);
+    let wrong = [
+        first_wrong(image),
+        wrong_when_cached(RowImage::new(&mut [0; IMAGE])?),
+        wrong_when_switched(RowImage::new(&mut [0; IMAGE])?),
         wrong_when_cached_and_switched(RowImage::new(&mut [0; IMAGE])?),
-        None
-    );
+    ];
+    assert_eq!(rt; wrong, [None; 4]);
     Ok(())
 }
 
@@ -154,20 +153,13 @@ fn benches_meet_the_table(rt: HostRuntime) -> Result<(), Fail> {
     let mut memory = [1; BENCH];
     let mut slots = [BLANK; WAITING];
     let bench = Bench::new(&mut memory, &mut slots)?;
-    assert!(rt; bench.is_on());
-    assert_eq!(rt; bench.count(), 12);
-    assert_eq!(rt; first_wrong(bench), None);
-    assert_eq!(rt;
+    assert!(rt; bench.is_on() && bench.count() == 12);
+    let wrong = [
+        first_wrong(bench),
         wrong_when_cached(Bench::new(&mut [1; BENCH], &mut [BLANK; WAITING])?),
-        None
-    );
-    assert_eq!(rt;
         wrong_when_switched(Bench::new(&mut [1; BENCH], &mut [BLANK; WAITING])?),
-        None
-    );
-    assert_eq!(rt;
         wrong_when_cached_and_switched(Bench::new(&mut [1; BENCH], &mut [BLANK; WAITING])?),
-        None
-    );
+    ];
+    assert_eq!(rt; wrong, [None; 4]);
     Ok(())
 }

@@ -32,6 +32,7 @@ impl Bench<'_> {
         ensures pending { queued self.new ≡ [] }
         ensures same { SamePlaces self.old self.new }
     {
+        // sectors are numbers here: there is no slice of them to go over
         for sector in 0..self.rows.count() {
             self.settle_sector(sector, number_for(numbers, sector));
         }

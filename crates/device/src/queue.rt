@@ -13,6 +13,7 @@ pub struct Queue<'a, T> {
     ghost inside: { first ≤ length slots.now - 1 },
 }
 
+// That a call leaves the queue on the same slice is a clause of each, `same`: it is about before and after, which no type can tell.
 impl<'a, T: Copy> Queue<'a, T> {
     ghost use Rattle.device.specs.Queues.{ring, waiting, places, At};
 

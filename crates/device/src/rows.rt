@@ -5,6 +5,7 @@ ghost use Rattle.device.specs.Memory.{row_count, row_in, with_row};
 use crate::Fault;
 
 /// Rows of `ROW` bytes in the caller's memory.
+// That a call leaves it on the same memory is a clause, `same`: it is about before and after, which no type can tell.
 #[derive(Drop)]
 pub struct Rows<'a, const ROW: usize> {
     bytes: &'a mut [u8],

@@ -1,6 +1,6 @@
 -- What a call on a switch does to the device below it, which means m before the call and m' after it.
 -- `Same` says that the device below is the same. Assumes nothing.
-use Rattle.std.specs.Prelude.{◌≡◌, ℕ, Bool, ◌&&◌, List, Err}
+use Rattle.std.specs.Prelude.{◌≡◌, ℕ, Bool, true, ◌&&◌, List, Err}
 use Rattle.std.proofs.lemmas.Bool.{and_parts}
 use Rattle.device.specs.declared.fault.Fault.TheVariants.{Off}
 use Rattle.device.specs.Faults.{Answer}
@@ -32,5 +32,10 @@ FlushesBelow f r Same m m' = ByFate f ((r ≡ Err Off) × Same) ((r ≡ Err Off)
 abbrev pub switched : Bool → Meaning → Meaning
 switched on m = meaning m.count (on && m.on) m.current m.possible
 
+-- what is on together with its switch is on
+pub both_on : (a b : Bool) → a && b ≡ true → b ≡ true
+both_on a b e = (and_parts a b e).1
+
+-- a switch keeps the laws
 pub switched_laws : (on : Bool) (m : Meaning) → Laws m → Laws (switched on m)
-switched_laws on m l = record { some = l.some; kept = λ e. l.kept (and_parts on m.on e).1; lawful = l.lawful }
+switched_laws on m l = record { some = l.some; kept = λ e. l.kept (both_on on m.on e); lawful = l.lawful }

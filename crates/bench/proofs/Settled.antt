@@ -1,18 +1,17 @@
 -- Settling one sector after another leaves in each what its number chooses.
 -- Assumes nothing.
-use Rattle.std.proofs.Common.{◌≡◌, ℕ, zero, suc, ◌+◌, ◌*◌, ◌/◌, ◌<◌, ◌≤◌, min, Bool, true, false, cond, ◌&&◌, eqb, ltb, List, [], ◌∷◌, ◌++◌, map, length, get_or, take, drop, Some, None, Option, Ok, Err, MatchResult, sym, refl, ap, ◌∙◌, subst, inl, inr, arith}
+use Rattle.std.proofs.Common.{◌≡◌, ℕ, zero, suc, ◌+◌, ◌*◌, ◌/◌, ◌<◌, ◌≤◌, min, Bool, true, false, cond, ◌&&◌, eqb, ltb, List, [], ◌∷◌, ◌++◌, map, length, get_or, take, drop, Some, None, Option, Ok, Err, sym, refl, ap, ◌∙◌, subst, inl, inr, arith}
 use Rattle.std.specs.List.{range_with_len, slice_get, filter}
 use Rattle.std.specs.Option.{is_some}
 use Rattle.std.proofs.lemmas.Bool.{cases_Bool, cases_eq, cases_lt, and_right, lt-ltb, le-ltb, cond-false}
 use Rattle.std.proofs.lemmas.List.{take-append-drop, drop-drop, get_or_past}
 use Rattle.std.proofs.lemmas.List.FromFn.{length-map-range_with_len, get_or-map-range_with_len}
-use Rattle.device.specs.declared.fault.Fault.TheVariants.{NoSector}
 use Rattle.device.specs.declared.pending.PendingWrite.{PendingWrite}
 use Rattle.device.specs.Faults.{Answer}
 use Rattle.device.specs.Sector.{Content, torn, Image, IsPayload, Found}
 use Rattle.device.specs.Bytes.{content, payload_content}
 use Rattle.device.specs.Rules.{Settled}
-use Rattle.device.specs.Memory.{row_count, row_in, with_row, only}
+use Rattle.device.specs.Memory.{PutsRow, row_count, row_in, with_row, only}
 use Rattle.device.specs.Waiting.{waiting_at, youngest, MayLeave, shown, may}
 use Rattle.device.proofs.Lasting.{room, row_long, row_here, row_there, long_kept, held_here, held_there}
 use Rattle.bench.specs.Rows.{durable, row_holds, torn_row, readable}
@@ -117,11 +116,11 @@ module _ (s : ℕ) (ws : List PendingWrite) (m : List ℕ) (here : s < row_count
       (tears_not content torn (durable m s) (row_count 61 m) s ws here (sym h)))
 
   pub taken : (k j : ℕ) (m' r : List ℕ) (w : PendingWrite) (a : Answer) → (k ≡ 9 → ⊥) → k ≡ suc j → Some w ≡ slice_get (filter (λ (v : PendingWrite). eqb v.sector s) ws) j → IsPayload w.bytes → r ≡ readable w.bytes
-      → MatchResult a (λ _. (s < row_count 61 m) × (m' ≡ with_row 61 m s r)) (λ f. (row_count 61 m ≤ s) × (f ≡ NoSector) × (m' ≡ m)) → SettlesAt k s ws m m'
+      → PutsRow 61 m s r a m' → SettlesAt k s ws m m'
   taken k j m' r w (Ok _) ne e h is row p = settles_by k s ws m m' r here (ap length row ∙ readable_long w.bytes is.sixty) p.1
       (takes_one readable (torn_row (row_in 61 m s)) (row_in 61 m s) (row_count 61 m) s ws here k j w ne e (sym h) ∙ sym row)
       (takes_one content torn (durable m s) (row_count 61 m) s ws here k j w ne e (sym h) ∙ payload_content w.bytes is ∙ sym (ap row_holds row ∙ holds_readable w.bytes is))
-  taken k j m' r w (Err f) ne e h is row p = let x = p.0 in absurd (omega arith)
+  taken k j m' r w (Err f) ne e h is row p = let x = p.0.0 in absurd (omega arith)
 
   pub taken_not : (k j : ℕ) → (k ≡ 9 → ⊥) → k ≡ suc j → None ≡ slice_get (filter (λ (v : PendingWrite). eqb v.sector s) ws) j → SettlesAt k s ws m m
   taken_not k j ne e h = settles_idle k s ws m here

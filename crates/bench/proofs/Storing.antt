@@ -1,11 +1,10 @@
 -- Writes that wait are made durable, one or all.
 -- Assumes nothing.
-use Rattle.std.proofs.Common.{◌≡◌, ℕ, ◌<◌, ◌≤◌, ltb, List, [], ◌∷◌, ◌++◌, length, take, drop, Ok, Err, Some, None, Option, MatchOption, MatchResult, append-nil, sym, refl, ap, ◌∙◌, subst, inl, inr, arith}
+use Rattle.std.proofs.Common.{◌≡◌, ℕ, ◌<◌, ◌≤◌, ltb, List, [], ◌∷◌, ◌++◌, length, take, drop, Ok, Err, Some, None, Option, MatchOption, append-nil, sym, refl, ap, ◌∙◌, subst, inl, inr, arith}
 use Rattle.device.specs.declared.queue.Queue.{Queue}
 use Rattle.device.specs.Queues.{waiting}
 use Rattle.device.proofs.Turned.{len_waiting}
 use Rattle.std.proofs.lemmas.Bool.{cases_lt, lt-ltb, le-ltb, cond-true, cond-false}
-use Rattle.device.specs.declared.fault.Fault.TheVariants.{NoSector}
 use Rattle.device.specs.declared.pending.PendingWrite.{PendingWrite}
 use Rattle.device.specs.Faults.{Answer}
 use Rattle.device.specs.Sector.{payload, IsPayload}
@@ -13,7 +12,7 @@ use Rattle.device.specs.Rules.{WriteCall, FlushCall}
 use Rattle.device.specs.Waiting.{waiting_at, youngest, Absent, NoneFor, Holds, room_in, with_waiting, Keeps}
 use Rattle.device.proofs.Lists.{absent_waiting, absent_append, waiting_append, youngest_append}
 use Rattle.device.proofs.Waits.{passed_on, past_dropped, flushed, accepted_flush, joins}
-use Rattle.device.specs.Memory.{row_count, with_row}
+use Rattle.device.specs.Memory.{PutsRow, row_count, with_row}
 use Rattle.device.proofs.Lasting.{row_written}
 use Rattle.bench.specs.Rows.{readable, row_holds, rows_mean}
 use Rattle.bench.proofs.Marking.{readable_long, holds_readable}
@@ -21,7 +20,7 @@ use Rattle.bench.specs.Waits.{MakesDurable, stored, stored_all, room_made}
 
 -- putting the write's row makes it durable
 pub durable_made : (w : PendingWrite) (m m' r : List ℕ) (a : Answer) → IsPayload w.bytes → r ≡ readable w.bytes
-    → MatchResult a (λ _. (w.sector < row_count 61 m) × (m' ≡ with_row 61 m w.sector r)) (λ f. (row_count 61 m ≤ w.sector) × (f ≡ NoSector) × (m' ≡ m)) → MakesDurable w m m'
+    → PutsRow 61 m w.sector r a m' → MakesDurable w m m'
 durable_made w m m' r (Ok _) is e p =
     let whole : m' ≡ with_row 61 m w.sector (readable w.bytes) = p.1 ∙ ap (with_row 61 m w.sector) e in
     record {
@@ -33,9 +32,9 @@ durable_made w m m' r (Ok _) is e p =
     }
 durable_made w m m' r (Err f) is e p = record {
   whole = is;
-  here = λ h. let k = p.0 in absurd (omega arith);
-  rules = λ h. let k = p.0 in absurd (omega arith);
-  past = λ _. p.2;
+  here = λ h. let k = p.0.0 in absurd (omega arith);
+  rules = λ h. let k = p.0.0 in absurd (omega arith);
+  past = λ _. p.1;
 }
 
 module _ (w : PendingWrite) (m m' : List ℕ) (d : MakesDurable w m m') where

@@ -49,6 +49,7 @@ impl<'a> Bench<'a> {
     }
 }
 
+// What a call leaves where it was, as `same` and `pending` say, is about before and after: no type can tell it.
 impl Bench<'_> {
     ghost use Rattle.bench.specs.Benches.{SamePlaces, means, memory, queued, room_for};
 

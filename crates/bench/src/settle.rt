@@ -55,7 +55,8 @@ impl Bench<'_> {
             }
             k => {
                 if let Some(write) = self.nth_for(sector, usize::from(k) - 1) {
-                    let _ = self.rows.put(sector, &marked(&write.bytes, READABLE));
+                    let row = marked(&write.bytes, READABLE);
+                    self.rows.put(sector, &row).unwrap();
                 }
             }
         }
@@ -76,11 +77,9 @@ impl Bench<'_> {
         ensures pending { self.new.pending ≡ self.old.pending }
         ensures same { self.new.rows.bytes.ghost_name ≡ self.old.rows.bytes.ghost_name }
     {
-        if let Ok(row) = self.rows.get(sector) {
-            let (bytes, _) = row.split_at(PAYLOAD);
-            let torn = marked(bytes, TORN);
-            let _ = self.rows.put(sector, &torn);
-        }
+        let (bytes, _) = self.rows.get(sector).unwrap().split_at(PAYLOAD);
+        let torn = marked(bytes, TORN);
+        self.rows.put(sector, &torn).unwrap();
     }
 }
 

@@ -54,6 +54,7 @@ const NINE: [(u32, u8); 9] = [
 ];
 
 // Makes the writes on a bench of the three sectors, settles it, flushes it if told to, and tells whether its memory is then these rows.
+// A closure in place of the flag would say nothing at three calls of four.
 fn leaves(
     writes: &[(u32, u8)],
     numbers: &[u8],

@@ -8,7 +8,8 @@ use media::RowImage;
 use std::test::Fail;
 use switch::{LastWrite, Switch};
 
-// A call and its answer, as a value: one table of them is run over devices of many types.
+// A call and its answer, as a value: one table of them is run over devices of many types. The tests of power cuts have calls without
+// answers; a crate of tests exports nothing, so neither has the other's.
 #[derive(Clone, Copy)]
 enum Step {
     // of this sector, which gives sixty times the byte

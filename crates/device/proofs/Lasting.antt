@@ -1,17 +1,16 @@
 -- Rows of memory of any length: what a write to one leaves; and the rules of a write that lasts at once.
 -- Assumes nothing.
-use Rattle.std.proofs.Common.{◌≡◌, ℕ, zero, suc, ◌+◌, ◌-◌, ◌*◌, ◌/◌, ◌<◌, ◌≤◌, min, ◌⊎◌, List, [], ◌∷◌, ◌++◌, length, get_or, take, drop, Ok, Err, MatchResult, sym, refl, ap, ap₂, ◌∙◌, subst, inl, inr, mul-le-mul_right, suc-mul, div-mul-le_self, arith}
+use Rattle.std.proofs.Common.{◌≡◌, ℕ, zero, suc, ◌+◌, ◌-◌, ◌*◌, ◌/◌, ◌<◌, ◌≤◌, min, ◌⊎◌, List, [], ◌∷◌, ◌++◌, length, get_or, take, drop, Ok, Err, sym, refl, ap, ap₂, ◌∙◌, subst, inl, inr, mul-le-mul_right, suc-mul, div-mul-le_self, arith}
 use borrow.Rule.Slice.PartMut.{put_mid}
 use Rattle.std.proofs.lemmas.Bool.{cases_order}
 use Rattle.std.proofs.lemmas.Slice.{put_mid-paste}
 use Rattle.std.proofs.lemmas.List.Edits.{paste_all}
 use Rattle.std.proofs.lemmas.List.{length-take, length-drop, length-append, take_at, drop_at, same_lists, get_or-take, get_or-drop, get_or_append_left, get_or-append_right}
 use Rattle.device.specs.declared.fault.Fault.{Fault}
-use Rattle.device.specs.declared.fault.Fault.TheVariants.{NoSector}
 use Rattle.device.specs.Faults.{Answer}
 use Rattle.device.specs.Sector.{Content, payload, Image}
 use Rattle.device.specs.Rules.{Puts, Gains, WriteCall}
-use Rattle.device.specs.Memory.{row_count, row_in, with_row, only, held_by, lasting}
+use Rattle.device.specs.Memory.{row_count, row_in, with_row, PutsRow, only, held_by, lasting}
 use Rattle.device.proofs.Waits.{accepted_write, refused_write}
 
 -- a row as code cuts it out of the memory, and as code puts it into it
@@ -102,8 +101,8 @@ module _ (h : ℕ → List ℕ → Content) (w : ℕ) (m : List ℕ) (s : ℕ) (
 
 -- what putting a row that holds the payload b answers is what a write of b answers
 pub put_written : (h : ℕ → List ℕ → Content) (w : ℕ) (m m' : List ℕ) (s : ℕ) (r b : List ℕ) (a : Answer) → length r ≡ w → h s r ≡ payload b
-    → MatchResult a (λ _. (s < row_count w m) × (m' ≡ with_row w m s r)) (λ f. (row_count w m ≤ s) × (f ≡ NoSector) × (m' ≡ m)) → WriteCall s b a (lasting h w m) (lasting h w m')
+    → PutsRow w m s r a m' → WriteCall s b a (lasting h w m) (lasting h w m')
 put_written h w m m' s r b (Ok _) long e p = subst (λ (x : List ℕ). WriteCall s b (Ok tt) (lasting h w m) (lasting h w x)) (sym p.1) (row_written h w m s r p.0 long b e)
 put_written h w m m' s r b (Err f) long e p =
-    subst (λ (x : List ℕ). WriteCall s b (Err f) (lasting h w m) (lasting h w x)) (sym p.2)
-    (subst (λ (x : Fault). WriteCall s b (Err x) (lasting h w m) (lasting h w m)) (sym p.1) (refused_write s b (lasting h w m) refl p.0))
+    subst (λ (x : List ℕ). WriteCall s b (Err f) (lasting h w m) (lasting h w x)) (sym p.1)
+    (subst (λ (x : Fault). WriteCall s b (Err x) (lasting h w m) (lasting h w m)) (sym p.0.1) (refused_write s b (lasting h w m) refl p.0.0))

@@ -1,7 +1,10 @@
 -- Memory as rows of w bytes, one for each sector; and devices in which what is written lasts at once.
 -- Assumes nothing.
-use Rattle.std.specs.Prelude.{◌≡◌, ℕ, ◌+◌, ◌*◌, ◌/◌, min, true, List, ◌++◌, length, take, drop, refl}
+use Rattle.std.specs.Prelude.{◌≡◌, ℕ, ◌+◌, ◌*◌, ◌/◌, ◌<◌, ◌≤◌, min, true, List, ◌++◌, length, take, drop, MatchResult, refl}
 use Rattle.std.proofs.Common.{sym, subst}
+use Rattle.device.specs.declared.fault.Fault.{Fault}
+use Rattle.device.specs.declared.fault.Fault.TheVariants.{NoSector}
+use Rattle.device.specs.Faults.{Answer}
 use Rattle.device.specs.Sector.{Content, Image, Possible, Lawful}
 use Rattle.device.specs.Rules.{Meaning, meaning, Laws}
 
@@ -16,6 +19,14 @@ row_in w m s = take w (drop (s * w) m)
 -- memory m with r in place of the row of sector s
 unfoldable pub with_row : ℕ → List ℕ → ℕ → List ℕ → List ℕ
 with_row w m s r = take (s * w) m ++ (r ++ drop (s * w + w) m)
+
+-- f is the answer where memory m has no sector s
+abbrev pub Lacks : ℕ → List ℕ → ℕ → Fault → Type 0
+Lacks w m s f = (row_count w m ≤ s) × (f ≡ NoSector)
+
+-- row r is put in sector s of memory m, by the answer a: it is there then, or else nothing is changed
+abbrev pub PutsRow : ℕ → List ℕ → ℕ → List ℕ → Answer → List ℕ → Type 0
+PutsRow w m s r a m' = MatchResult a (λ _. (s < row_count w m) × (m' ≡ with_row w m s r)) (λ f. Lacks w m s f × (m' ≡ m))
 
 -- a device whose only possible contents are the current ones
 abbrev pub only : Image → Possible

@@ -1,5 +1,5 @@
 -- The list that a queue stands for, oldest first, and for how many it has places; the contracts of a queue speak of these.
--- Place 0 follows the last place. A first that is no place means place 0, a length past the places means all. Assumes nothing.
+-- Place 0 follows the last place. Assumes nothing.
 use Rattle.std.specs.Prelude.{◌≡◌, ℕ, ◌<◌, List, ◌++◌, length, take, drop, slice_index_or}
 use Rattle.device.specs.declared.queue.Queue.{Queue}
 

@@ -24,7 +24,7 @@ impl PendingWrite {
     }
 }
 
-/// A place for a pending write, before one stands there.
+/// A place for a pending write, before one stands there: the default, as a constant that an array can be made of.
 pub const BLANK: PendingWrite = PendingWrite {
     sector: 0,
     bytes: [0; PAYLOAD],

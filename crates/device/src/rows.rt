@@ -1,6 +1,6 @@
 //! The caller's memory as rows of one length, a row for each sector.
 ghost use Rattle.std.specs.Prelude.{◌≡◌, ◌≢◌, ◌+◌, ◌*◌, ◌%◌, ◌<◌, ◌≤◌, length, MatchOption, MatchResult};
-ghost use Rattle.device.specs.Memory.{row_count, row_in, with_row};
+ghost use Rattle.device.specs.Memory.{row_count, row_in, Lacks, PutsRow};
 
 use crate::Fault;
 
@@ -43,7 +43,7 @@ impl<const ROW: usize> Rows<'_, ROW> {
 
     /// The row of a sector, if there is one.
     pub fn get(&self, sector: u32) -> Result<&[u8], Fault>
-        ensures { MatchResult result (λ row. (sector < row_count ROW self.now.bytes.now) × (row.now ≡ row_in ROW self.now.bytes.now sector) × (length row.now ≡ ROW)) (λ fault. (row_count ROW self.now.bytes.now ≤ sector) × (fault ≡ Fault.NoSector)) }
+        ensures { MatchResult result (λ row. (sector < row_count ROW self.now.bytes.now) × (row.now ≡ row_in ROW self.now.bytes.now sector) × (length row.now ≡ ROW)) (Lacks ROW self.now.bytes.now sector) }
     {
         let at = self.place(sector)?;
         Ok(&self.bytes[at..at + ROW])
@@ -51,7 +51,7 @@ impl<const ROW: usize> Rows<'_, ROW> {
 
     /// Puts a row in the place of a sector's, if there is one, and leaves every other byte.
     pub fn put(&mut self, sector: u32, row: &[u8; ROW]) -> Result<(), Fault>
-        ensures put { MatchResult result (λ _. (sector < row_count ROW self.old.bytes.now) × (self.new.bytes.now ≡ with_row ROW self.old.bytes.now sector row.now)) (λ fault. (row_count ROW self.old.bytes.now ≤ sector) × (fault ≡ Fault.NoSector) × (self.new.bytes.now ≡ self.old.bytes.now)) }
+        ensures put { PutsRow ROW self.old.bytes.now sector row.now result self.new.bytes.now }
         ensures same { self.new.bytes.ghost_name ≡ self.old.bytes.ghost_name }
     {
         let at = self.place(sector)?;
@@ -61,7 +61,7 @@ impl<const ROW: usize> Rows<'_, ROW> {
 
     // Where the row of a sector begins, if there is one.
     fn place(&self, sector: u32) -> Result<usize, Fault>
-        ensures { MatchResult result (λ at. (sector < row_count ROW self.now.bytes.now) × (at ≡ sector * ROW) × (at + ROW ≤ length self.now.bytes.now)) (λ fault. (row_count ROW self.now.bytes.now ≤ sector) × (fault ≡ Fault.NoSector)) }
+        ensures { MatchResult result (λ at. (sector < row_count ROW self.now.bytes.now) × (at ≡ sector * ROW) × (at + ROW ≤ length self.now.bytes.now)) (Lacks ROW self.now.bytes.now sector) }
     {
         if sector >= self.count() {
             return Err(Fault::NoSector);

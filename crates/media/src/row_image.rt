@@ -33,6 +33,7 @@ impl<'a> RowImage<'a> {
     }
 }
 
+// That a call leaves it on the same memory, `same`, is about before and after: no type can tell it.
 impl<'a> Device for RowImage<'a> {
     ghost means = { λ d. rows_mean d.rows.bytes.now };
 

@@ -26,6 +26,7 @@ fn look<D: Device>(device: &mut D, sector: u32) -> Result<Condition, Fault>
 }
 
 /// Puts the condition of each sector into the caller's table, and tells how many sectors there are.
+// A table with its count, and no vector: a survey allocates nothing.
 pub fn survey<D: Device>(device: &mut D, table: &mut [Condition]) -> Result<usize, SurveyError>
     ensures { Surveys table.old table.new result (D.means device.old) (D.means device.new) }
 {
@@ -38,7 +39,7 @@ pub fn survey<D: Device>(device: &mut D, table: &mut [Condition]) -> Result<usiz
     }
     // by number: zipped with the sectors the places are lent, and what they hold in the end was not proved
     for sector in 0..count {
-        let condition = look(device, sector).map_err(|_| SurveyError::Off)?; // cut within a read
+        let condition = look(device, sector).map_err(|_| SurveyError::Off)?; // cut within a read, the only fault that comes
         table[sector as usize] = condition;
     }
     Ok(count as usize)

@@ -5,6 +5,7 @@ ghost use Rattle.survey.specs.Conditions.{at, count_of};
 ghost use Rattle.survey.specs.Runs.{NextRun, GivesRun, LooksFrom};
 
 use crate::condition::{Condition, Run};
+use std::fmt;
 
 /// How many sectors are in the wanted condition.
 pub fn how_many(conditions: &[Condition], wanted: Condition) -> usize
@@ -24,7 +25,7 @@ pub fn readable(conditions: &[Condition]) -> usize
     conditions.len() - how_many(conditions, Condition::Torn)
 }
 
-// The first sector from `from` on that is in the wanted condition.
+// The first sector from `from` on that is in the wanted condition. It goes by number, since a run is told by numbers.
 fn find(conditions: &[Condition], wanted: Condition, from: usize) -> Option<usize>
     ensures { MatchOption result ((s : ℕ) → from ≤ s → s < length conditions.now → at conditions.now s ≢ wanted) (λ i. (from ≤ i) × (i < length conditions.now) × (at conditions.now i ≡ wanted) × ((s : ℕ) → from ≤ s → s < i → at conditions.now s ≢ wanted)) }
 {
@@ -83,5 +84,20 @@ impl Iterator for Runs<'_> {
         let run = next_run(self.conditions, self.wanted, self.from)?;
         self.from = run.last + 1;
         Some(run)
+    }
+}
+
+/// The runs that are left, as ranges: "2-4, 7", or "none".
+impl fmt::Display for Runs<'_> {
+    fn fmt<W: fmt::Write>(&self, f: &mut fmt::Formatter<W>) -> fmt::Result {
+        let mut runs = Runs { ..*self };
+        let Some(first) = runs.next() else {
+            return write!(f, "none");
+        };
+        write!(f, "{first}")?;
+        for run in runs {
+            write!(f, ", {run}")?;
+        }
+        Ok(())
     }
 }

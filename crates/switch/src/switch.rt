@@ -42,6 +42,7 @@ impl<D: Device> Switch<D> {
     }
 }
 
+// What a call makes of the fuse, and that it leaves `last`, is about before and after: no type can tell it.
 impl<D: Device> Device for Switch<D> {
     ghost means = { λ d. switched (is_on d.fuse) (D.Device.means d.below) };
 

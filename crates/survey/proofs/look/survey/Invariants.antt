@@ -1,6 +1,5 @@
 -- The sectors that were passed are told, and the device is as it was.
 -- Assumes nothing.
-use Rattle.device.specs.Rules.{meaning}
 use Rattle.survey.proofs.Tables.{SoFar}
 use Rattle.survey.proofs.look.survey.Given as goal
 

@@ -16,7 +16,7 @@ returns-else-is_some-clause-settled c = torn_not c.args.sector (queued c.args.se
 
 pub returns-in-Some-clause-settled : goal.returns-in-Some-clause-settled
 returns-in-Some-clause-settled c = taken c.args.sector (queued c.args.self.now) (memory c.args.self.now) c.requires c.args.number (c.from.result - 1) _ _ c.in-Some.write c.put.result
-    (λ e. omega arith) (let e = c.from.ensures in omega arith) c.in-Some.ensures (search rules) c.marked.ensures c.put.ensures.put
+    (λ e. omega arith) (let e = c.from.ensures in omega arith) c.in-Some.ensures (search rules) c.marked-row.ensures c.put.ensures.put
 
 pub returns-in_default-nth_for-clause-settled : goal.returns-in_default-nth_for-clause-settled
 returns-in_default-nth_for-clause-settled c = taken_not c.args.sector (queued c.args.self.now) (memory c.args.self.now) c.requires c.args.number (c.from.result - 1)

@@ -109,23 +109,9 @@ impl Step {
     }
 }
 
-// The index of the first step that is answered otherwise.
+// The index of the first step that is answered otherwise. No switch that is made here turns off.
 fn first_wrong<D: Device + Drop>(mut device: D) -> Option<usize> {
     STEPS.iter().position(|step| !step.is_met(&mut device))
-}
-
-// These are generic over the lowest device, since a caller over borrowed memory that names the cache above it gets no proof yet.
-// The switches never turn off.
-fn wrong_when_cached<D: Device + Drop>(below: D) -> Option<usize> {
-    first_wrong(Cache::new(below))
-}
-
-fn wrong_when_switched<D: Device + Drop>(below: D) -> Option<usize> {
-    first_wrong(Switch::new(below, 0, LastWrite::Lost))
-}
-
-fn wrong_when_cached_and_switched<D: Device + Drop>(below: D) -> Option<usize> {
-    first_wrong(Switch::new(Cache::new(below), 0, LastWrite::Reached))
 }
 
 // The bytes of a row image of twelve sectors, torn while they are zero.
@@ -141,9 +127,13 @@ fn row_images_meet_the_table(rt: HostRuntime) -> Result<(), Fail> {
     assert!(rt; image.is_on() && image.count() == 12);
     let wrong = [
         first_wrong(image),
-        wrong_when_cached(RowImage::new(&mut [0; IMAGE])?),
-        wrong_when_switched(RowImage::new(&mut [0; IMAGE])?),
-        wrong_when_cached_and_switched(RowImage::new(&mut [0; IMAGE])?),
+        first_wrong(Cache::new(RowImage::new(&mut [0; IMAGE])?)),
+        first_wrong(Switch::new(RowImage::new(&mut [0; IMAGE])?, 0, LastWrite::Lost)),
+        first_wrong(Switch::new(
+            Cache::new(RowImage::new(&mut [0; IMAGE])?),
+            0,
+            LastWrite::Reached,
+        )),
     ];
     assert_eq!(rt; wrong, [None; 4]);
     Ok(())
@@ -157,9 +147,17 @@ fn benches_meet_the_table(rt: HostRuntime) -> Result<(), Fail> {
     assert!(rt; bench.is_on() && bench.count() == 12);
     let wrong = [
         first_wrong(bench),
-        wrong_when_cached(Bench::new(&mut [1; BENCH], &mut [BLANK; WAITING])?),
-        wrong_when_switched(Bench::new(&mut [1; BENCH], &mut [BLANK; WAITING])?),
-        wrong_when_cached_and_switched(Bench::new(&mut [1; BENCH], &mut [BLANK; WAITING])?),
+        first_wrong(Cache::new(Bench::new(&mut [1; BENCH], &mut [BLANK; WAITING])?)),
+        first_wrong(Switch::new(
+            Bench::new(&mut [1; BENCH], &mut [BLANK; WAITING])?,
+            0,
+            LastWrite::Lost,
+        )),
+        first_wrong(Switch::new(
+            Cache::new(Bench::new(&mut [1; BENCH], &mut [BLANK; WAITING])?),
+            0,
+            LastWrite::Reached,
+        )),
     ];
     assert_eq!(rt; wrong, [None; 4]);
     Ok(())

@@ -214,21 +214,17 @@ fn every_cut_leaves_what_it_may(rt: HostRuntime) -> Result<(), Fail> {
     Ok(())
 }
 
-// Whether a cache is off once the device below is, though it holds a write. The switch turns off within its first call, which comes with
-// the cache's flush. It is generic, since a caller over borrowed memory that names the cache above it gets no proof yet.
-fn goes_off<D: Device + Drop>(below: D) -> bool {
-    let mut cache = Cache::new(Switch::new(below, 1, LastWrite::Lost));
-    Write(9, 1).on(&mut cache) == Err(Fault::NoSector)
-        && Write(0, 1).on(&mut cache) == Ok(())
-        && gives(&mut cache, 0, Ok(1))
-        && Flush.on(&mut cache) == Err(Fault::Off)
-        && is_dead(&mut cache)
-}
-
+// The switch turns off within its first call, which comes with the cache's flush.
 #[test]
 fn a_cache_is_off_with_the_device_below(rt: HostRuntime) -> Result<(), Fail> {
     let mut memory = [0; SECTORS * ROW];
     let mut slots = [BLANK; WAITING];
-    assert!(rt; goes_off(Bench::new(&mut memory, &mut slots)?));
+    let bench = Bench::new(&mut memory, &mut slots)?;
+    let mut cache = Cache::new(Switch::new(bench, 1, LastWrite::Lost));
+    assert_eq!(rt; Write(9, 1).on(&mut cache), Err(Fault::NoSector));
+    assert_eq!(rt; Write(0, 1).on(&mut cache), Ok(()));
+    assert!(rt; gives(&mut cache, 0, Ok(1)));
+    assert_eq!(rt; Flush.on(&mut cache), Err(Fault::Off));
+    assert!(rt; is_dead(&mut cache), "though it holds a write");
     Ok(())
 }

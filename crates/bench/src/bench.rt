@@ -116,6 +116,7 @@ impl Bench<'_> {
         ensures { MatchOption result (NoneFor sector (queued self.now)) (λ w. (IsPayload w.bytes → Holds sector w.bytes (queued self.now))) }
     {
         let (older, younger) = self.pending.as_slices();
+        // no `or_else`: what its closure answers was not to be had for the proof
         match last_to(younger, sector) {
             Some(write) => Some(write),
             None => last_to(older, sector),

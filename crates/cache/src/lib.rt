@@ -111,7 +111,7 @@ fn pass_all_on<D: Device>(below: &mut D, writes: &[PendingWrite]) -> Result<(), 
     Ok(())
 }
 
-// The clauses spell out what a cache means, `with_waiting` of two parts: a name for it would take the same two.
+// The clauses spell out what a cache means: over any device its name in a clause is `⟦<Cache<D> as Device>⟧.means`, which is no plainer.
 impl<D: Device> Device for Cache<D> {
     ghost means = { λ d. with_waiting d.held.items (D.Device.means d.below) };
 

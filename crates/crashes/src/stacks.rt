@@ -177,7 +177,7 @@ fn reached(calls: u32, cut: Option<LastWrite>) -> u32 {
 }
 
 // Runs the first calls of the script over a bench, on a cache alone or under a switch that then cuts the next one. Tells whether they were
-// answered as they must be, and the number then leaves what it must.
+// answered as they must be, and the number then leaves what it must. Which of the two is data of the tests, so it is matched here.
 fn is_left(calls: u32, cut: Option<LastWrite>, number: u8) -> Result<bool, Fail> {
     let mut memory = [0; SECTORS * ROW];
     let mut slots = [BLANK; WAITING];

@@ -37,7 +37,7 @@ pub fn survey<D: Device>(device: &mut D, table: &mut [Condition]) -> Result<usiz
     if !device.is_on() {
         return Err(SurveyError::Off);
     }
-    // by number: zipped with the sectors the places are lent, and what they hold in the end was not proved
+    // by number: zipping the sectors with the places was tried, and what the places hold in the end could not be proved
     for sector in 0..count {
         let condition = look(device, sector).map_err(|_| SurveyError::Off)?; // cut within a read, the only fault that comes
         table[sector as usize] = condition;

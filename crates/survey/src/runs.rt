@@ -8,6 +8,7 @@ use crate::condition::{Condition, Run};
 use std::fmt;
 
 /// How many sectors are in the wanted condition.
+// A table comes with what is wanted of it here, in `find` and in `next_run` alone; methods on a pair of them would be no plainer.
 pub fn how_many(conditions: &[Condition], wanted: Condition) -> usize
     ensures value { result ≡ count_of wanted conditions.now }
     ensures bound { result ≤ length conditions.now }

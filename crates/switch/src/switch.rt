@@ -43,7 +43,7 @@ impl<D: Device> Switch<D> {
 }
 
 // What a call makes of the fuse, and that it leaves `last`, is about before and after: no type can tell it. And the clauses spell out
-// what a switch means, `switched` of two parts: a name for it would take the same two.
+// what a switch means: over any device its name in a clause is `⟦<Switch<D> as Device>⟧.means`, which is no plainer.
 impl<D: Device> Device for Switch<D> {
     ghost means = { λ d. switched (is_on d.fuse) (D.Device.means d.below) };
 

@@ -93,12 +93,9 @@ fn gives<D: Device>(device: &mut D, sector: u32, content: Content) -> bool {
 
 // Whether the sectors are found so.
 fn are_found<D: Device>(device: &mut D, contents: &[Content; SECTORS]) -> bool {
-    for (sector, content) in (0..).zip(contents) {
-        if !gives(device, sector, *content) {
-            return false;
-        }
-    }
-    true
+    (0..)
+        .zip(contents)
+        .all(|(sector, content)| gives(device, sector, *content))
 }
 
 // Whether every call is refused since the device is off, also for a sector that is not there.

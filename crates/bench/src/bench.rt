@@ -132,6 +132,7 @@ fn last_to(writes: &[PendingWrite], sector: u32) -> Option<PendingWrite>
     Some(writes[at])
 }
 
+// `same`, here too, is about before and after: no type can tell it.
 impl<'a> Device for Bench<'a> {
     ghost use Rattle.bench.specs.Benches.{SamePlaces, means, memory, queued};
 

@@ -20,6 +20,7 @@ pub const KEEP: u8 = 0;
 /// The number that tears a sector for which a write waits.
 pub const TEAR: u8 = 9;
 
+// `same` and `pending`, here too, are about before and after: no type can tell them.
 impl Bench<'_> {
     /// Stands for a power cut: a number for each sector chooses what is found there, and then nothing waits. 0 keeps the durable
     /// content, k takes the k-th oldest write that waits for the sector, 9 makes it torn if one waits; others count as 0.

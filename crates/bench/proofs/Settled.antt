@@ -30,9 +30,6 @@ waiting_filter n s (w ∷ ws) h = let l = lt-ltb s n h in let r = waiting_filter
 
 -- What a number chooses, by the write that it stands for.
 module _ {X : Type 0} (f : List ℕ → X) (t r : X) (n s : ℕ) (ws : List PendingWrite) (here : s < n) where
-  writes : List PendingWrite
-  writes = filter (λ (w : PendingWrite). eqb w.sector s) ws
-
   at_one : (fs : List PendingWrite) (j : ℕ) (w : PendingWrite) → slice_get fs j ≡ Some w → get_or (map f (map (λ (v : PendingWrite). v.bytes) fs)) j r ≡ f w.bytes
   at_one [] j w e = cc
   at_one (v ∷ fs) zero w e = cc

@@ -65,9 +65,6 @@ module _ (w : PendingWrite) (ws ws' : List PendingWrite) (m m' : List ℕ) (e : 
   pub all_stored : stored_all ws' m' ≡ stored_all ws m
   all_stored = ap (stored_all ws') (made_stored w m m' d) ∙ ap (λ (z : List PendingWrite). stored_all z m) (sym e)
 
-  pub fewer : length ws' < length ws
-  fewer = let k = ap length e in omega arith
-
   -- eight waited
   module _ (full : 8 ≤ length ws) where
     pub full_stored : m' ≡ room_made ws m

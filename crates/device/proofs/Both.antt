@@ -1,12 +1,12 @@
 -- Two writes and a flush, by the call at which they end.
 -- Assumes nothing.
-use Rattle.std.proofs.Common.{◌≡◌, ℕ, ◌<◌, true, not, eqb, List, sym, ◌∙◌, subst, inl, inr, arith}
+use Rattle.std.proofs.Common.{◌≡◌, ℕ, ◌<◌, ◌⊎◌, true, not, eqb, List, sym, ◌∙◌, subst, inl, inr, arith}
 use Rattle.std.proofs.lemmas.Bool.{cases_Bool, cases_lt, both_ways}
 use Rattle.device.specs.Faults.{Answer, returned}
 use Rattle.device.specs.Sector.{Content, Image, Found}
 use Rattle.device.specs.Rules.{Meaning, WriteCall, FlushCall, StaysOff}
 use Rattle.device.specs.Leaves.{MaybeWritten, WritesBoth}
-use Rattle.device.proofs.Found.{found_before, unwritten, maybe_map}
+use Rattle.device.proofs.Found.{found_before, found_unchanged, found_flushed, unwritten, maybe_map}
 use Rattle.device.proofs.Calls.{accepted_below, write_leaves, flush_adds_none}
 
 -- an accepted call was made on a device that was on, and is
@@ -16,6 +16,13 @@ accepted_on r m m' w e = elim (cases_Bool m.on) [ inl h ↦ h | inr h ↦ let x 
 still_on : (r : Answer) (m' : Meaning) → m'.on ≡ not (eqb (returned r) 1) → returned r ≡ 0 → m'.on ≡ true
 still_on r m' p e = p ∙ rw e
 
+-- a write that is not accepted answers 2 or 1
+not_accepted : (s : ℕ) (a : List ℕ) (r : Answer) (m m' : Meaning) → WriteCall s a r m m' → (returned r ≡ 0 → ⊥) → (returned r ≡ 2) ⊎ (returned r ≡ 1)
+not_accepted s a r m m' w ne = elim (cases_lt s m.count) [
+  | inl h ↦ elim (w.writes.answers h) [ inl x ↦ absurd (ne x) | inr x ↦ inr x ]
+  | inr h ↦ w.numbered.past h
+]
+
 module _ (s : ℕ) (a : List ℕ) (t : ℕ) (b : List ℕ) (r₁ : Answer) (m m₁ : Meaning) (w₁ : WriteCall s a r₁ m m₁)
     (some : (t : ℕ) → (c : Content) × m.possible t c) where
   -- the first write is refused or cut
@@ -24,9 +31,11 @@ module _ (s : ℕ) (a : List ℕ) (t : ℕ) (b : List ℕ) (r₁ : Answer) (m m�
     count = w₁.count;
     power = w₁.power;
     off = w₁.off;
-    refused = λ x. elim (cases_lt s m.count) [ inl h ↦ absurd (w₁.numbered.below h x) | inr h ↦ inl (h, w₁.writes.refused x) ];
+    past = λ _. not_accepted s a r₁ m m₁ w₁ ne;
+    refused = λ x. elim (cases_lt s m.count) [ inl h ↦ absurd (w₁.numbered.below h x) | inr h ↦ inl (h, w₁.writes.refused x, found_unchanged m m₁ (w₁.writes.refused x)) ];
     below = λ h _. w₁.writes.answers h;
     accepted = λ x. absurd (ne x);
+    one = λ x. absurd (ne x);
     leaves = λ σ f. unwritten t b (MaybeWritten s a (Found m.possible)) σ (write_leaves s a r₁ m m₁ σ w₁ some f);
   })
 
@@ -44,18 +53,23 @@ module _ (s : ℕ) (a : List ℕ) (t : ℕ) (b : List ℕ) (r₁ : Answer) (m m�
     was_on : (r : Answer) (m' : Meaning) → StaysOff r m m'
     was_on r m' = record { stays = λ x. absurd (both_ways m.on x on); answers = λ x. absurd (both_ways m.on x on); added = λ x. absurd (both_ways m.on x on) }
 
+    second_below : returned r₂ ≡ 0 → t < m.count
+    second_below ok₂ = subst (λ (n : ℕ). t < n) w₁.count (accepted_below t r₂ m₁ w₂.numbered ok₂)
+
     -- the second write is refused or cut
     pub ends_second : (r : Answer) → r₂ ≡ r → (returned r₂ ≡ 0 → ⊥) → WritesBoth s a t b r m m₂
     ends_second r e ne = subst (λ (x : Answer). WritesBoth s a t b x m m₂) e (record {
       count = w₂.count ∙ w₁.count;
       power = w₂.power;
       off = was_on r₂ m₂;
+      past = λ _. not_accepted t b r₂ m₁ m₂ w₂ ne;
       refused = λ x. elim (cases_lt t m.count) [
         | inl h ↦ absurd (w₂.numbered.below (below_too t h) x)
-        | inr h ↦ inr (h, record { here = (w₂.writes.refused x).current s ∙ (w₁.writes.puts ok₁).here; there = λ k ne. (w₂.writes.refused x).current k ∙ (w₁.writes.puts ok₁).there k ne })
+        | inr h ↦ inr (accepted_below s r₁ m w₁.numbered ok₁, h, record { here = (w₂.writes.refused x).current s ∙ (w₁.writes.puts ok₁).here; there = λ k ne. (w₂.writes.refused x).current k ∙ (w₁.writes.puts ok₁).there k ne })
       ];
       below = λ _ h. w₂.writes.answers (below_too t h);
       accepted = λ x. absurd (ne x);
+      one = λ x. absurd (ne x);
       leaves = two_leave;
     })
 
@@ -65,11 +79,12 @@ module _ (s : ℕ) (a : List ℕ) (t : ℕ) (b : List ℕ) (r₁ : Answer) (m m�
       count = w₃.count ∙ w₂.count ∙ w₁.count;
       power = w₃.power;
       off = was_on r m₃;
+      past = λ h. elim w₃.flushes.answers [ inl x ↦ absurd (elim h [ inl p ↦ let q = accepted_below s r₁ m w₁.numbered ok₁ in omega arith | inr p ↦ let q = second_below ok₂ in omega arith ]) | inr x ↦ inr x ];
       refused = λ x. elim w₃.flushes.answers [ inl y ↦ absurd (omega arith) | inr y ↦ absurd (omega arith) ];
       below = λ _ _. w₃.flushes.answers;
       accepted = λ x. (
         accepted_below s r₁ m w₁.numbered ok₁,
-        subst (λ (n : ℕ). t < n) w₁.count (accepted_below t r₂ m₁ w₂.numbered ok₂),
+        second_below ok₂,
         (
           m₁.current,
           w₁.writes.puts ok₁,
@@ -77,5 +92,6 @@ module _ (s : ℕ) (a : List ℕ) (t : ℕ) (b : List ℕ) (r₁ : Answer) (m m�
         ),
         w₃.flushes.settled x,
       );
+      one = λ x. found_flushed m₃.current m₃.possible (w₃.flushes.settled x);
       leaves = λ σ f. two_leave σ (found_before (flush_adds_none r m₂ m₃ w₃ kept (still_on r₂ m₂ w₂.power ok₂)) f);
     }

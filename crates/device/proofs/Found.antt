@@ -4,19 +4,19 @@ use Rattle.std.proofs.Common.{◌≡◌, ℕ, cond, eqb, List, sym, refl, subst,
 use Rattle.std.proofs.lemmas.Bool.{cases_eq, eq-eqb, ne_eqb}
 use Rattle.device.specs.Sector.{Content, Image, Possible, Found}
 use Rattle.device.specs.Rules.{Meaning, NoneAdded, Unchanged, Gains, Settled}
-use Rattle.device.specs.Leaves.{MaybeWritten}
+use Rattle.device.specs.Leaves.{SameFound, OneFound, MaybeWritten}
 
 -- where no possible content is added, nothing else can be found
 pub found_before : {p q : Possible} {σ : Image} → NoneAdded p q → Found q σ → Found p σ
 found_before {p} {q} {σ} n f s = n s (σ s) (f s)
 
 -- a read, and a call refused with 2 or 3, leave the found images as they are
-pub found_unchanged : (m m' : Meaning) (σ : Image) → Unchanged m m' → (Found m.possible σ → Found m'.possible σ) × (Found m'.possible σ → Found m.possible σ)
-found_unchanged m m' σ u = (λ f s. u.lost s (σ s) (f s), λ f s. u.added s (σ s) (f s))
+pub found_unchanged : (m m' : Meaning) → Unchanged m m' → SameFound m.possible m'.possible
+found_unchanged m m' u σ = (λ f s. u.lost s (σ s) (f s), λ f s. u.added s (σ s) (f s))
 
 -- a flush leaves one image to be found, the current one
-pub found_flushed : {f : Image} {p : Possible} {σ : Image} → Settled f p → Found p σ → (s : ℕ) → σ s ≡ f s
-found_flushed {f} {p} {σ} e h s = e s (σ s) (h s)
+pub found_flushed : (f : Image) (p : Possible) → Settled f p → OneFound p f
+found_flushed f p e σ h s = e s (σ s) (h s)
 
 -- σ with content c in sector s
 with_content : ℕ → Content → Image → Image

@@ -1,13 +1,21 @@
 -- Which images a cut can leave after writes that no flush has followed.
 -- Assumes nothing.
-use Rattle.std.specs.Prelude.{◌≡◌, ℕ, ◌<◌, ◌≤◌, ◌⊎◌, List, ◌≢◌}
+use Rattle.std.specs.Prelude.{◌≡◌, ℕ, ◌<◌, ◌≤◌, ◌⊎◌, ◌↔◌, List, ◌≢◌}
 use Rattle.device.specs.Faults.{Answer, returned}
-use Rattle.device.specs.Sector.{payload, torn, Image, Found}
+use Rattle.device.specs.Sector.{payload, torn, Image, Possible, Found}
 use Rattle.device.specs.Rules.{Meaning, CountStays, StaysOff, TellsPower, Unchanged, Puts, Settled}
 
 -- σ is τ, but for sector s
 abbrev pub SameBut : ℕ → Image → Image → Type 0
 SameBut s τ σ = (t : ℕ) → (t ≢ s) → σ t ≡ τ t
+
+-- a cut leaves the same images as before
+abbrev pub SameFound : Possible → Possible → Type 0
+SameFound p q = (σ : Image) → Found p σ ↔ Found q σ
+
+-- a cut leaves the image f, and no other
+abbrev pub OneFound : Possible → Image → Type 0
+OneFound p f = (σ : Image) → Found p σ → (s : ℕ) → σ s ≡ f s
 
 -- an image of F in which the write of b to sector s happened, did not happen, or tore the sector
 abbrev pub MaybeWritten : ℕ → List ℕ → (Image → Type 0) → Image → Type 0
@@ -17,15 +25,17 @@ MaybeWritten s b F σ = (τ : Image) × F τ × SameBut s τ σ × ((σ s ≡ τ
 abbrev pub PutsBoth : ℕ → List ℕ → ℕ → List ℕ → Image → Image → Type 0
 PutsBoth s a t b f g = (h : Image) × Puts s a f h × Puts t b h g
 
--- Two writes and a flush. Accepted, both payloads are current and nothing else can be found after a cut; the device is off
--- exactly if the answer is 1. Refused with 2, the first sector is not below the count and nothing is changed, or the second is
--- not and the first payload is current. Whatever the answer, a cut leaves
--- an image that could be found before, in which each of the two writes happened, did not happen or tore its sector.
+-- Two writes and a flush. Accepted, both payloads are current and a cut leaves the current image, and no other; the device is off
+-- exactly if the answer is 1. With a sector that is not below the count, and only then, the answer is 2, unless it is 1: if it is the
+-- first, nothing is changed and a cut leaves the same images as before; else the first payload is current. Whatever the answer, a cut
+-- leaves an image that could be found before, in which each of the two writes happened, did not happen or tore its sector.
 pub record WritesBoth (s : ℕ) (a : List ℕ) (t : ℕ) (b : List ℕ) (r : Answer) (m m' : Meaning) : Type 0 where
   pub count : CountStays m m'
   pub power : TellsPower r m'
   pub off : StaysOff r m m'
-  pub refused : returned r ≡ 2 → ((m.count ≤ s) × Unchanged m m') ⊎ ((m.count ≤ t) × Puts s a m.current m'.current)
+  pub past : (m.count ≤ s) ⊎ (m.count ≤ t) → (returned r ≡ 2) ⊎ (returned r ≡ 1)
+  pub refused : returned r ≡ 2 → ((m.count ≤ s) × Unchanged m m' × SameFound m.possible m'.possible) ⊎ ((s < m.count) × (m.count ≤ t) × Puts s a m.current m'.current)
   pub below : s < m.count → t < m.count → (returned r ≡ 0) ⊎ (returned r ≡ 1)
   pub accepted : returned r ≡ 0 → (s < m.count) × (t < m.count) × PutsBoth s a t b m.current m'.current × Settled m'.current m'.possible
+  pub one : returned r ≡ 0 → OneFound m'.possible m'.current
   pub leaves : (σ : Image) → Found m'.possible σ → MaybeWritten t b (MaybeWritten s a (Found m.possible)) σ

@@ -3,6 +3,7 @@
 use Rattle.std.specs.Prelude.{◌≡◌, ℕ, ◌<◌, ◌≤◌, true, false, List, length, Ok, Err, Result}
 use Rattle.device.specs.declared.Fault.{Fault}
 use Rattle.device.specs.Rules.{Meaning, CountStays, Unchanged, NoneAdded}
+use Rattle.device.specs.Leaves.{SameFound}
 use Rattle.survey.specs.declared.condition.Condition.{Condition}
 use Rattle.survey.specs.declared.condition.SurveyError.{SurveyError}
 use Rattle.survey.specs.declared.condition.SurveyError.TheVariants.{Off, ShortTable}
@@ -19,10 +20,10 @@ abbrev pub SameFrom : ℕ → List Condition → List Condition → Type 0
 SameFrom n xs ys = (s : ℕ) → n ≤ s → at ys s ≡ at xs s
 
 -- A survey of a device into a table, xs before and ys after.
--- Accepted, the table has the condition of every sector, its other places are untouched, and so is the device.
--- Refused as short, the table has no place for some sector, and nothing is touched.
+-- Accepted, the table has the condition of every sector, its other places are untouched, and so is the device: a cut leaves
+-- the same images as before. Refused as short, the table has no place for some sector, and nothing is touched.
 -- Refused as off, the device is off, and nothing more can be found on it; places past its sectors are untouched.
 abbrev pub Surveys : List Condition → List Condition → Result ℕ SurveyError → Meaning → Meaning → Type 0
-Surveys xs ys (Ok n) m m' = (n ≡ m.count) × (n ≤ length xs) × Surveyed m.current n ys × SameFrom n xs ys × CountStays m m' × Unchanged m m' × (m'.on ≡ true)
+Surveys xs ys (Ok n) m m' = (n ≡ m.count) × (n ≤ length xs) × Surveyed m.current n ys × SameFrom n xs ys × CountStays m m' × Unchanged m m' × SameFound m.possible m'.possible × (m'.on ≡ true)
 Surveys xs ys (Err ShortTable) m m' = (length xs < m.count) × (ys ≡ xs) × CountStays m m' × Unchanged m m' × (m'.on ≡ m.on)
 Surveys xs ys (Err Off) m m' = (m.count ≤ length xs) × SameFrom m.count xs ys × (m'.on ≡ false) × CountStays m m' × NoneAdded m.possible m'.possible

@@ -1,4 +1,4 @@
--- The verdict on a card, by the conditions of its sectors. No two fit (proofs/Single.antt).
+-- The verdict on a card, by the conditions of its sectors. No two fit: the contract of `judge` says so.
 -- Assumes nothing.
 use Rattle.std.specs.Prelude.{◌≡◌, ◌<◌, List, length}
 use Rattle.survey.specs.declared.condition.Condition.{Condition}

@@ -27,6 +27,7 @@ fn look<D: Device>(device: &mut D, sector: u32) -> Result<Condition, Fault>
 
 /// Puts the condition of each sector into the caller's table, and tells how many sectors there are.
 // A table with its count, and no vector: a survey allocates nothing.
+#[tactic(auto, using(device::proofs::Found::found_unchanged))]
 pub fn survey<D: Device>(device: &mut D, table: &mut [Condition]) -> Result<usize, SurveyError>
     ensures { Surveys table.old table.new result (D.means device.old) (D.means device.new) }
 {

@@ -1,12 +1,16 @@
 //! The verdict on a card.
+ghost use Rattle.std.specs.Prelude.{◌≡◌};
+ghost use Rattle.survey.specs.declared.condition.Verdict.{Verdict};
 ghost use Rattle.survey.specs.Verdicts.{Judged};
 
 use crate::condition::{Condition, Verdict};
 use crate::runs::how_many;
 
-/// The verdict that fits the conditions of a card's sectors.
+/// The verdict that fits the conditions of a card's sectors; no other does.
+#[tactic(auto, using(crate::proofs::Single::one_verdict))]
 pub fn judge(conditions: &[Condition]) -> Verdict
-    ensures { Judged conditions.now result }
+    ensures fits { Judged conditions.now result }
+    ensures only { (v : Verdict) → Judged conditions.now v → v ≡ result }
 {
     let torn = how_many(conditions, Condition::Torn);
     if conditions.is_empty() {

@@ -28,9 +28,7 @@ fn inspect(rt: &HostRuntime, path: &str) -> anyhow::Result<()> {
     let image = read_image(rt, path)?;
     let mut table = [Condition::Torn; SECTORS];
     let count = survey_image(image, &mut table)?;
-    let report = Report {
-        conditions: &table[..count],
-    };
+    let report = Report::new(&table[..count]);
     println!(rt; "{report}")?;
     Ok(())
 }

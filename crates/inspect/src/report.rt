@@ -1,21 +1,44 @@
 //! What the inspector prints of a card: five lines.
+ghost use Rattle.std.specs.Prelude.{◌≡◌, Some};
+ghost use Rattle.survey.specs.Verdicts.{Judged};
+ghost use Rattle.inspect.specs.Reports.{report_text};
 
 use std::fmt;
-use survey::{Condition, Runs, judge, readable};
+use survey::{Condition, Runs, Verdict, judge, readable};
 
-/// The report on a card whose sectors are in these conditions.
+/// The report on a card: the conditions of its sectors, and the verdict on them.
 #[derive(Clone, Copy)]
 pub struct Report<'a> {
-    pub conditions: &'a [Condition],
+    conditions: &'a [Condition],
+    verdict: Verdict,
+}
+
+impl<'a> Report<'a> {
+    /// The report on a card whose sectors are in these conditions.
+    pub fn new(conditions: &'a [Condition]) -> Report<'a>
+        ensures on { result.conditions.now ≡ conditions.now }
+        ensures verdict { Judged conditions.now result.verdict }
+    {
+        let verdict = judge(conditions);
+        Report {
+            conditions,
+            verdict,
+        }
+    }
 }
 
 impl fmt::Display for Report<'_> {
+    ghost output = { λ report. Some (report_text report.conditions.now report.verdict) };
+
     fn fmt<W: fmt::Write>(&self, f: &mut fmt::Formatter<W>) -> fmt::Result {
-        let sectors = self.conditions.len();
-        let readable = readable(self.conditions);
-        let blank = Runs::new(self.conditions, Condition::Blank);
-        let torn = Runs::new(self.conditions, Condition::Torn);
-        let verdict = judge(self.conditions);
+        let Report {
+            conditions,
+            verdict,
+        } = self;
+        let sectors = conditions.len();
+        let readable = readable(conditions);
+        let blank = Runs::new(conditions, Condition::Blank);
+        let torn = Runs::new(conditions, Condition::Torn);
         writeln!(f, "sectors: {sectors}")?;
         writeln!(f, "readable: {readable}")?;
         writeln!(f, "blank: {blank}")?;

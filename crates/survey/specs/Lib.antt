@@ -3,3 +3,4 @@ pub mod Runs
 pub mod Surveys
 pub mod Verdicts
 pub mod Images
+pub mod Texts

@@ -1,4 +1,6 @@
 //! What can be told of a sector by reading it, runs of neighbours, and a verdict on all.
+ghost use Rattle.std.specs.Prelude.{Some};
+ghost use Rattle.survey.specs.Texts.{run_text, sentence};
 
 use std::fmt;
 use thiserror::Error;
@@ -22,6 +24,8 @@ pub struct Run {
 }
 
 impl fmt::Display for Run {
+    ghost output = { λ run. Some (run_text run) };
+
     fn fmt<W: fmt::Write>(&self, f: &mut fmt::Formatter<W>) -> fmt::Result {
         let Run { first, last } = self;
         if first == last {
@@ -63,6 +67,8 @@ pub enum Verdict {
 }
 
 impl fmt::Display for Verdict {
+    ghost output = { λ verdict. Some (sentence verdict) };
+
     fn fmt<W: fmt::Write>(&self, f: &mut fmt::Formatter<W>) -> fmt::Result {
         f.write_str(match self {
             Verdict::NoSectors => "The image is empty: it has no sectors.",

@@ -90,6 +90,12 @@ impl Iterator for Runs<'_> {
 
 /// The runs that are left, as ranges: "2-4, 7", or "none".
 impl fmt::Display for Runs<'_> {
+    ghost use Rattle.std.specs.Prelude.{Some};
+    ghost use Rattle.survey.specs.Runs.{runs_left};
+    ghost use Rattle.survey.specs.Texts.{runs_text};
+
+    ghost output = { λ runs. Some (runs_text (runs_left runs)) };
+
     fn fmt<W: fmt::Write>(&self, f: &mut fmt::Formatter<W>) -> fmt::Result {
         let mut runs = Runs { ..*self };
         let Some(first) = runs.next() else {

@@ -8,6 +8,7 @@ use Rattle.device.specs.Rules.{Meaning}
 use Rattle.device.specs.Queues.{waiting, places}
 use Rattle.device.specs.Waiting.{with_waiting}
 use Rattle.bench.specs.declared.bench.Bench.{Bench}
+use Rattle.bench.specs.declared.bench.Refused.{Refused}
 use Rattle.bench.specs.Rows.{rows_mean}
 
 -- the bytes of its rows
@@ -36,7 +37,11 @@ pub record SamePlaces (d d' : Bench) : Type 0 where
 abbrev pub Made : List ℕ → List PendingWrite → Bench → Type 0
 Made m ps d = (memory d ≡ m) × (d.pending.slots.now ≡ ps) × (queued d ≡ [])
 
--- memory m and so many places are refused; memory that is not whole rows is told first
-abbrev pub Refuses : List ℕ → ℕ → MemoryError → Type 0
-Refuses m p NotWholeRows = length m % 61 ≡ 0 → ⊥
-Refuses m p FewPlaces = (length m % 61 ≡ 0) × (p < 8)
+-- memory m and places that hold ps are refused for this reason; memory that is not whole rows is told first
+abbrev pub Unfit : List ℕ → List PendingWrite → MemoryError → Type 0
+Unfit m ps NotWholeRows = length m % 61 ≡ 0 → ⊥
+Unfit m ps FewPlaces = (length m % 61 ≡ 0) × (length ps < 8)
+
+-- they are refused, and given back as they were
+abbrev pub Refuses : List ℕ → List PendingWrite → Refused → Type 0
+Refuses m ps e = Unfit m ps e.reason × (e.rows.now ≡ m) × (e.slots.now ≡ ps)

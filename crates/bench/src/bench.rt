@@ -9,9 +9,19 @@ ghost use Rattle.bench.specs.Waits.{MakesDurable, LetsWait, WaitsAfter, stored_a
 
 use crate::rows::{READABLE, ROW, marked, payload_of};
 use device::{Device, Fault, MemoryError, PAYLOAD, PendingWrite, Queue, Rows, youngest_to};
+use thiserror::Error;
 
 /// How many writes wait at most.
 pub const WAITING: usize = 8;
+
+/// Memory and places that no bench can be made over, given back as they were.
+#[derive(Debug, Drop, Error)]
+#[error("{reason}")]
+pub struct Refused<'a> {
+    pub reason: MemoryError,
+    pub rows: &'a mut [u8],
+    pub slots: &'a mut [PendingWrite],
+}
 
 /// A device over rows of the caller's memory, with writes that wait in the caller's places: never more than eight, and there is
 /// room for so many.
@@ -26,14 +36,30 @@ pub struct Bench<'a> {
 impl<'a> Bench<'a> {
     ghost use Rattle.bench.specs.Benches.{Made, Refuses};
 
-    /// A device over this memory, as it stands, with nothing waiting. Refused if the memory is not whole rows, or if there are
-    /// places for fewer than eight writes.
-    pub fn new(rows: &'a mut [u8], slots: &'a mut [PendingWrite]) -> Result<Bench<'a>, MemoryError>
-        ensures { MatchResult result (λ d. (length rows.old % 61 ≡ 0) × (8 ≤ length slots.old) × Made rows.old slots.old d × (d.rows.bytes.ghost_name ≡ rows.entry.ghost_name) × (d.pending.slots.ghost_name ≡ slots.entry.ghost_name)) (λ e. Refuses rows.old (length slots.old) e) }
+    /// A device over this memory, as it stands, with nothing waiting. Refused, and all given back, if the memory is not whole
+    /// rows, or if there are places for fewer than eight writes.
+    pub fn new(rows: &'a mut [u8], slots: &'a mut [PendingWrite]) -> Result<Bench<'a>, Refused<'a>>
+        ensures { MatchResult result (λ d. (length rows.old % 61 ≡ 0) × (8 ≤ length slots.old) × Made rows.old slots.old d × (d.rows.bytes.ghost_name ≡ rows.entry.ghost_name) × (d.pending.slots.ghost_name ≡ slots.entry.ghost_name)) (λ e. Refuses rows.old slots.old e × (e.rows.ghost_name ≡ rows.entry.ghost_name) × (e.slots.ghost_name ≡ slots.entry.ghost_name)) }
     {
-        let rows = Rows::new(rows).ok_or(MemoryError::NotWholeRows)?;
+        let rows = match Rows::new(rows) {
+            Ok(rows) => rows,
+            Err(rows) => {
+                let reason = MemoryError::NotWholeRows;
+                return Err(Refused {
+                    reason,
+                    rows,
+                    slots,
+                });
+            }
+        };
         if slots.len() < WAITING {
-            return Err(MemoryError::FewPlaces);
+            let reason = MemoryError::FewPlaces;
+            let rows = rows.into_bytes();
+            return Err(Refused {
+                reason,
+                rows,
+                slots,
+            });
         }
         let pending = Queue::new(slots);
         Ok(Bench { rows, pending })

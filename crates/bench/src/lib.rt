@@ -5,6 +5,6 @@ mod bench;
 mod rows;
 mod settle;
 
-pub use bench::{Bench, WAITING};
+pub use bench::{Bench, Refused, WAITING};
 pub use rows::ROW;
 pub use settle::{KEEP, TEAR};

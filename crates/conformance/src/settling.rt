@@ -1,7 +1,7 @@
 //! Settling a bench in every way, and what a bench is refused for.
 use crate::cards::Row::{self, Readable, Torn};
 use bench::{Bench, ROW, WAITING};
-use device::{BLANK, Device, MemoryError, PAYLOAD};
+use device::{BLANK, Device, MemoryError, PAYLOAD, PendingWrite};
 use std::test::Fail;
 
 // Three sectors before any write.
@@ -137,15 +137,22 @@ fn a_ninth_write_makes_the_first_durable(rt: HostRuntime) -> Result<(), Fail> {
     Ok(())
 }
 
+// Why memory and places are refused, if they are.
+fn refusal(rows: &mut [u8], slots: &mut [PendingWrite]) -> Option<MemoryError> {
+    let refused = Bench::new(rows, slots).err()?;
+    Some(refused.reason)
+}
+
 #[test]
 fn memory_is_whole_rows_and_places_are_eight(rt: HostRuntime) {
     let few = Some(MemoryError::FewPlaces);
     let part = Some(MemoryError::NotWholeRows);
-    assert_eq!(rt; Bench::new(&mut [], &mut [BLANK; 8]).err(), None);
-    assert_eq!(rt; Bench::new(&mut [], &mut [BLANK; 7]).err(), few);
-    assert_eq!(rt; Bench::new(&mut [0; ROW - 1], &mut [BLANK; 8]).err(), part);
-    assert_eq!(rt; Bench::new(&mut [0; ROW], &mut [BLANK; 8]).err(), None);
-    assert_eq!(rt; Bench::new(&mut [0; ROW], &mut [BLANK; 7]).err(), few);
-    assert_eq!(rt; Bench::new(&mut [0; ROW], &mut [BLANK; 9]).err(), None);
-    assert_eq!(rt; Bench::new(&mut [0; ROW + 1], &mut [BLANK; 8]).err(), part);
+    assert_eq!(rt; refusal(&mut [], &mut [BLANK; 8]), None);
+    assert_eq!(rt; refusal(&mut [], &mut [BLANK; 7]), few);
+    assert_eq!(rt; refusal(&mut [0; ROW - 1], &mut [BLANK; 8]), part);
+    assert_eq!(rt; refusal(&mut [0; ROW], &mut [BLANK; 8]), None);
+    assert_eq!(rt; refusal(&mut [0; ROW], &mut [BLANK; 7]), few);
+    assert_eq!(rt; refusal(&mut [0; ROW], &mut [BLANK; 9]), None);
+    assert_eq!(rt; refusal(&mut [0; ROW + 1], &mut [BLANK; 8]), part);
+    assert_eq!(rt; refusal(&mut [0; ROW + 1], &mut [BLANK; 7]), part);
 }

@@ -1,5 +1,5 @@
 //! The caller's memory as rows of one length, a row for each sector.
-ghost use Rattle.std.specs.Prelude.{◌≡◌, ◌≢◌, ◌+◌, ◌*◌, ◌%◌, ◌<◌, ◌≤◌, length, MatchOption, MatchResult};
+ghost use Rattle.std.specs.Prelude.{◌≡◌, ◌≢◌, ◌+◌, ◌*◌, ◌%◌, ◌<◌, ◌≤◌, length, MatchResult};
 ghost use Rattle.device.specs.Memory.{row_count, row_in, Lacks, PutsRow};
 
 use crate::Fault;
@@ -12,14 +12,15 @@ pub struct Rows<'a, const ROW: usize> {
 }
 
 impl<'a, const ROW: usize> Rows<'a, ROW> {
-    /// Rows in this memory, as it stands; none if it does not end where a row ends.
-    pub fn new(bytes: &'a mut [u8]) -> Option<Rows<'a, ROW>>
-        ensures { MatchOption result (length bytes.old % ROW ≢ 0) (λ r. (length bytes.old % ROW ≡ 0) × (r.bytes.now ≡ bytes.old) × (r.bytes.ghost_name ≡ bytes.entry.ghost_name)) }
+    /// Rows in this memory, as it stands. If it does not end where a row ends, it is given back as it was.
+    // A borrow ends by itself; it is given back so that the contract can say what it holds then.
+    pub fn new(bytes: &'a mut [u8]) -> Result<Rows<'a, ROW>, &'a mut [u8]>
+        ensures { MatchResult result (λ r. (length bytes.old % ROW ≡ 0) × (r.bytes.now ≡ bytes.old) × (r.bytes.ghost_name ≡ bytes.entry.ghost_name)) (λ b. (length bytes.old % ROW ≢ 0) × (b.now ≡ bytes.old) × (b.ghost_name ≡ bytes.entry.ghost_name)) }
     {
         if !bytes.len().is_multiple_of(ROW) {
-            return None;
+            return Err(bytes);
         }
-        Some(Rows { bytes })
+        Ok(Rows { bytes })
     }
 
     /// The memory, as it stands now.

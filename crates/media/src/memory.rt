@@ -13,6 +13,14 @@ pub enum MemoryError {
     NotWholeRows,
 }
 
+/// Memory that no row image can be made over, given back as it was.
+#[derive(Debug, Drop, Error)]
+#[error("{reason}")]
+pub struct Refused<'a> {
+    pub reason: MemoryError,
+    pub rows: &'a mut [u8],
+}
+
 impl MemoryError {
     /// The number that the refusal goes by in documents and in programs' output.
     // A method and no `From` for `u8`: its name says which number is meant.

@@ -5,7 +5,7 @@ ghost use Rattle.device.specs.Memory.{with_row};
 ghost use Rattle.media.specs.Rows.{rows_mean, row_for};
 ghost use Rattle.media.specs.Lawful.{rows_laws};
 
-use crate::memory::MemoryError;
+use crate::memory::{MemoryError, Refused};
 use crate::rows::{ROW, payload_of, row_for};
 use device::{Device, Fault, PAYLOAD, Rows};
 
@@ -16,12 +16,17 @@ pub struct RowImage<'a> {
 }
 
 impl<'a> RowImage<'a> {
-    /// A device over this memory, as it stands; refused if the memory is not whole rows.
-    pub fn new(rows: &'a mut [u8]) -> Result<RowImage<'a>, MemoryError>
-        ensures { MatchResult result (λ d. (length rows.old % 64 ≡ 0) × (d.rows.bytes.now ≡ rows.old) × (d.rows.bytes.ghost_name ≡ rows.entry.ghost_name)) (λ e. (length rows.old % 64 ≢ 0) × (e ≡ MemoryError.NotWholeRows)) }
+    /// A device over this memory, as it stands; refused, and given back, if it is not whole rows.
+    pub fn new(rows: &'a mut [u8]) -> Result<RowImage<'a>, Refused<'a>>
+        ensures { MatchResult result (λ d. (length rows.old % 64 ≡ 0) × (d.rows.bytes.now ≡ rows.old) × (d.rows.bytes.ghost_name ≡ rows.entry.ghost_name)) (λ e. (length rows.old % 64 ≢ 0) × (e.reason ≡ MemoryError.NotWholeRows) × (e.rows.now ≡ rows.old) × (e.rows.ghost_name ≡ rows.entry.ghost_name)) }
     {
-        let rows = Rows::new(rows).ok_or(MemoryError::NotWholeRows)?;
-        Ok(RowImage { rows })
+        match Rows::new(rows) {
+            Ok(rows) => Ok(RowImage { rows }),
+            Err(rows) => {
+                let reason = MemoryError::NotWholeRows;
+                Err(Refused { reason, rows })
+            }
+        }
     }
 
     /// The memory, as it stands now.

@@ -5,7 +5,7 @@ ghost use Rattle.survey.specs.Images.{SurveysImage};
 
 use crate::condition::{Condition, ImageError};
 use crate::look::survey;
-use media::{MemoryError, ROW, RowImage};
+use media::{MemoryError, ROW, Refused, RowImage};
 
 /// The most sectors that a card has.
 pub const SECTORS: usize = 1024;
@@ -13,11 +13,11 @@ pub const SECTORS: usize = 1024;
 /// The most bytes that a card image has.
 pub const LONGEST: usize = SECTORS * ROW;
 
-impl From<MemoryError> for ImageError {
+impl From<Refused<'_>> for ImageError {
     ghost from_gives = { λ _ error. error ≡ NotWholeRows };
 
-    fn from(error: MemoryError) -> ImageError {
-        match error {
+    fn from(refused: Refused<'_>) -> ImageError {
+        match refused.reason {
             MemoryError::NotWholeRows => ImageError::NotWholeRows,
         }
     }

@@ -69,13 +69,19 @@ fn only_sound_rows_are_read(rt: HostRuntime) -> Result<(), Fail> {
     Ok(())
 }
 
+// Why memory is refused, if it is, and how many of its bytes are given back.
+fn refusal(memory: &mut [u8]) -> Option<(MemoryError, usize)> {
+    let refused = RowImage::new(memory).err()?;
+    Some((refused.reason, refused.rows.len()))
+}
+
 #[test]
 fn memory_is_whole_rows(rt: HostRuntime) {
-    let refused = Some(MemoryError::NotWholeRows);
-    assert_eq!(rt; RowImage::new(&mut []).err(), None);
-    assert_eq!(rt; RowImage::new(&mut [0; ROW - 1]).err(), refused);
-    assert_eq!(rt; RowImage::new(&mut [0; ROW]).err(), None);
-    assert_eq!(rt; RowImage::new(&mut [0; ROW + 1]).err(), refused);
+    let part = MemoryError::NotWholeRows;
+    assert_eq!(rt; refusal(&mut []), None);
+    assert_eq!(rt; refusal(&mut [0; ROW - 1]), Some((part, ROW - 1)));
+    assert_eq!(rt; refusal(&mut [0; ROW]), None);
+    assert_eq!(rt; refusal(&mut [0; ROW + 1]), Some((part, ROW + 1)));
 }
 
 #[test]

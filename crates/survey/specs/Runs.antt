@@ -6,7 +6,7 @@ use Rattle.survey.specs.declared.condition.Run.{Run}
 use Rattle.survey.specs.declared.runs.Runs.{Runs}
 use Rattle.survey.specs.Conditions.{at, same}
 
--- the first run of condition k that begins at sector `from` or later: none earlier is in condition k, and the run ends
+-- the first run of condition k among the sectors from `from` on: none earlier of them is in condition k, and the run ends
 -- where a sector in another condition follows, or the table ends
 pub record FirstRun (xs : List Condition) (k : Condition) (from : ℕ) (r : Run) : Type 0 where
   pub later : from ≤ r.first
@@ -31,7 +31,7 @@ unfoldable pub runs_in : Condition → ℕ → List Condition → List Run
 runs_in k n [] = []
 runs_in k n (x ∷ xs) = cond (same k x) (joins_runs n (runs_in k (n + 1) xs)) (runs_in k (n + 1) xs)
 
--- an iterator that has the runs of condition k left that begin at sector `from` or later
+-- an iterator that has left the runs of condition k among the sectors from `from` on
 abbrev pub LooksFrom : Runs → List Condition → Condition → ℕ → Type 0
 LooksFrom runs xs k from = (runs.conditions.now ≡ xs) × (runs.wanted ≡ k) × (runs.from ≡ from)
 

@@ -45,6 +45,11 @@ fn tell(rt: &HostRuntime, path: &str) -> anyhow::Result<ExitCode> {
 }
 
 fn main(rt: HostRuntime) -> anyhow::Result<ExitCode> {
-    let path = env::args(&rt)?.nth(1);
+    let mut args = env::args(&rt)?;
+    let path = args.nth(1);
+    if args.next().is_some() {
+        eprintln!(rt; "inspect: one card image at a time")?;
+        return Ok(ExitCode::FAILURE);
+    }
     tell(&rt, path.as_deref().unwrap_or(USUAL))
 }

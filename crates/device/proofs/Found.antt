@@ -10,7 +10,7 @@ use Rattle.device.specs.Leaves.{SameFound, OneFound, MaybeWritten}
 pub found_before : {p q : Possible} {σ : Image} → NoneAdded p q → Found q σ → Found p σ
 found_before {p} {q} {σ} n f s = n s (σ s) (f s)
 
--- a read, and a call refused with 2 or 3, leave the found images as they are
+-- a read that does not answer 1, and a call refused with 2 or 3, leave the found images as they are
 pub found_unchanged : (m m' : Meaning) → Unchanged m m' → SameFound m.possible m'.possible
 found_unchanged m m' u σ = (λ f s. u.lost s (σ s) (f s), λ f s. u.added s (σ s) (f s))
 

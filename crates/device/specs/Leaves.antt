@@ -1,4 +1,4 @@
--- Which images a cut can leave after writes that no flush has followed.
+-- Which images a cut can leave after a call, and after two writes and a flush.
 -- Assumes nothing.
 use Rattle.std.specs.Prelude.{◌≡◌, ℕ, ◌<◌, ◌≤◌, ◌⊎◌, ◌↔◌, List, ◌≢◌}
 use Rattle.device.specs.Faults.{Answer, returned}
@@ -13,7 +13,7 @@ SameBut s τ σ = (t : ℕ) → (t ≢ s) → σ t ≡ τ t
 abbrev pub SameFound : Possible → Possible → Type 0
 SameFound p q = (σ : Image) → Found p σ ↔ Found q σ
 
--- a cut leaves the image f, and no other
+-- a cut leaves no image but f (that it leaves one is a law)
 abbrev pub OneFound : Possible → Image → Type 0
 OneFound p f = (σ : Image) → Found p σ → (s : ℕ) → σ s ≡ f s
 

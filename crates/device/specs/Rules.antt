@@ -66,7 +66,7 @@ abbrev pub TellsPower : Answer → Meaning → Type 0
 TellsPower r m' = m'.on ≡ not (returned r == 1)
 
 -- Rule 4. A read copies the current payload into the caller's bytes, which held x and then hold y, or answers 3 if it is torn.
--- Refused, it leaves these bytes. It changes no content, current or possible.
+-- Refused, it leaves these bytes. Unless it answers 1, it changes no content, current or possible.
 pub record Reads (s : ℕ) (x y : List ℕ) (r : Answer) (m m' : Meaning) : Type 0 where
   pub copied : returned r ≡ 0 → m.current s ≡ payload y
   pub unreadable : returned r ≡ 3 → (s < m.count) × (m.current s ≡ torn)

@@ -13,7 +13,7 @@ use Rattle.survey.specs.Texts.{runs_text, sentence}
 abbrev pub line : List ℕ → List ℕ → List ℕ
 line name text = name ++ codes ": " ++ text ++ codes "\n"
 
--- the report on a card whose sectors are in conditions xs, with verdict v
+-- the report on a card whose sectors are in conditions xs, with verdict v; whoever prints it ends the last line
 abbrev pub report_text : List Condition → Verdict → List ℕ
 report_text xs v =
     line (codes "sectors") (decimal (length xs))

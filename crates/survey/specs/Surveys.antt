@@ -22,8 +22,8 @@ SameFrom n xs ys = (s : ℕ) → n ≤ s → at ys s ≡ at xs s
 -- A survey of a device into a table, xs before and ys after.
 -- Accepted, the table has the condition of every sector, its other places are untouched, and so is the device: a cut leaves
 -- the same images as before. Refused as short, the table has no place for some sector, and nothing is touched.
--- Refused as off, the device is off, and nothing more can be found on it; the table has the conditions of the sectors that were
--- read before it turned off, and its other places are untouched, all of them if it was off before.
+-- Refused as off, the device is off, and nothing more can be found on it; some of the first sectors have their conditions in the
+-- table, and its other places are untouched, all of them if the device was off before.
 abbrev pub Surveys : List Condition → List Condition → Result ℕ SurveyError → Meaning → Meaning → Type 0
 Surveys xs ys (Ok n) m m' = (n ≡ m.count) × (n ≤ length xs) × Surveyed m.current n ys × SameFrom n xs ys × CountStays m m' × Unchanged m m' × SameFound m.possible m'.possible × (m'.on ≡ true)
 Surveys xs ys (Err ShortTable) m m' = (length xs < m.count) × (ys ≡ xs) × CountStays m m' × Unchanged m m' × (m'.on ≡ m.on)

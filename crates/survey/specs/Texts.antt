@@ -15,6 +15,7 @@ abbrev pub runs_text : List Run → List ℕ
 runs_text [] = codes "none"
 runs_text (r ∷ rs) = run_text r ++ flat_map (λ q. codes ", " ++ run_text q) rs
 
+-- what a verdict says
 abbrev pub sentence : Verdict → List ℕ
 sentence NoSectors = codes "The image is empty: it has no sectors."
 sentence AllTorn = codes "The card cannot be read: every sector is torn."

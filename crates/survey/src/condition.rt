@@ -48,7 +48,7 @@ pub enum SurveyError {
 /// Why a card image cannot be surveyed.
 #[derive(Clone, Copy, Debug, PartialEq, Eq, Error)]
 pub enum ImageError {
-    /// more than 1,024 rows
+    /// longer than 1,024 rows
     #[error("a card image has at most 1,024 rows of 64 bytes, and this file is longer")]
     TooLong,
     /// it does not end where a row ends

@@ -44,7 +44,7 @@ fn last_of(conditions: &[Condition], first: usize) -> usize
     past.unwrap_or(conditions.len()) - 1
 }
 
-/// The first run in the wanted condition among the sectors from `from` on. Of a run that `from` is inside of, that is its rest.
+/// The first run in the wanted condition among the sectors from `from` on. If `from` is inside a run, the rest of it.
 pub fn next_run(conditions: &[Condition], wanted: Condition, from: usize) -> Option<Run>
     ensures { NextRun conditions.now wanted from result }
 {

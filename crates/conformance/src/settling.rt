@@ -139,8 +139,10 @@ fn a_ninth_write_makes_the_first_durable(rt: HostRuntime) -> Result<(), Fail> {
 
 // Why memory and places are refused, if they are.
 fn refusal(rows: &mut [u8], slots: &mut [PendingWrite]) -> Option<MemoryError> {
-    let refused = Bench::new(rows, slots).err()?;
-    Some(refused.reason)
+    match Bench::new(rows, slots) {
+        Ok(_) => None,
+        Err(refused) => Some(refused.reason),
+    }
 }
 
 #[test]

@@ -71,8 +71,10 @@ fn only_sound_rows_are_read(rt: HostRuntime) -> Result<(), Fail> {
 
 // Why memory is refused, if it is, and how many of its bytes are given back.
 fn refusal(memory: &mut [u8]) -> Option<(MemoryError, usize)> {
-    let refused = RowImage::new(memory).err()?;
-    Some((refused.reason, refused.rows.len()))
+    match RowImage::new(memory) {
+        Ok(_) => None,
+        Err(refused) => Some((refused.reason, refused.rows.len())),
+    }
 }
 
 #[test]

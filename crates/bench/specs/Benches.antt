@@ -1,15 +1,17 @@
--- What a bench holds and means, how it is made over memory and places, and why it is not.
+-- What a bench holds and means, what each call does to it, how it is made over memory and places, and why it is not.
 -- Assumes nothing.
-use Rattle.std.specs.Prelude.{◌≡◌, ℕ, ◌%◌, ◌<◌, List, [], length}
+use Rattle.std.specs.Prelude.{◌≡◌, ℕ, ◌%◌, ◌<◌, List, [], ◌∷◌, ◌++◌, length, Ok, Err}
 use Rattle.device.specs.declared.memory.MemoryError.{MemoryError}
 use Rattle.device.specs.declared.memory.MemoryError.TheVariants.{NotWholeRows, FewPlaces}
 use Rattle.device.specs.declared.pending.PendingWrite.{PendingWrite}
+use Rattle.device.specs.Faults.{Answer}
 use Rattle.device.specs.Rules.{Meaning}
-use Rattle.device.specs.Queues.{waiting, places}
-use Rattle.device.specs.Waiting.{with_waiting}
+use Rattle.device.specs.Queues.{waiting, PutsOne}
+use Rattle.device.specs.Waiting.{room_in, with_waiting}
 use Rattle.bench.specs.declared.bench.Bench.{Bench}
 use Rattle.bench.specs.declared.bench.Refused.{Refused}
 use Rattle.bench.specs.Rows.{rows_mean}
+use Rattle.bench.specs.Waits.{stored_all, room_made}
 
 -- the bytes of its rows
 abbrev pub memory : Bench → List ℕ
@@ -19,23 +21,42 @@ memory d = d.rows.bytes.now
 abbrev pub queued : Bench → List PendingWrite
 queued d = waiting d.pending
 
--- for how many writes there are places
-abbrev pub room_for : Bench → ℕ
-room_for d = places d.pending
+-- what its places hold, those where a write waits and the others
+abbrev pub slots : Bench → List PendingWrite
+slots d = d.pending.slots.now
 
 -- what a bench means: its rows, with the writes that wait in front of them
 abbrev pub means : Bench → Meaning
 means d = with_waiting (queued d) (rows_mean (memory d))
 
--- it stands on the same pieces of the caller's memory, with as many places
-pub record SamePlaces (d d' : Bench) : Type 0 where
+-- it stands on the same pieces of the caller's memory
+pub record SameMemory (d d' : Bench) : Type 0 where
   pub rows : d'.rows.bytes.ghost_name ≡ d.rows.bytes.ghost_name
   pub slots : d'.pending.slots.ghost_name ≡ d.pending.slots.ghost_name
-  pub room : room_for d' ≡ room_for d
+
+-- The write w joins those that wait, as the youngest: one of the places takes it, and the others stay as they are. Before a ninth, the
+-- oldest becomes durable.
+pub record LetsWait (w : PendingWrite) (d d' : Bench) : Type 0 where
+  pub pending : queued d' ≡ room_in (queued d) ++ w ∷ []
+  pub rows : memory d' ≡ room_made (queued d) (memory d)
+  pub place : PutsOne w (slots d) (slots d')
+  pub same : SameMemory d d'
+
+-- what a write of b to sector s does: accepted, it waits; refused, it changes nothing
+abbrev pub AfterWrite : ℕ → List ℕ → Answer → Bench → Bench → Type 0
+AfterWrite s b (Ok _) d d' = LetsWait (record { sector = s; bytes = b }) d d'
+AfterWrite s b (Err _) d d' = d' ≡ d
+
+-- What a flush does: all that waited is durable, oldest first, and nothing waits; the places stay as they are.
+pub record AfterFlush (d d' : Bench) : Type 0 where
+  pub rows : memory d' ≡ stored_all (queued d) (memory d)
+  pub pending : queued d' ≡ []
+  pub slots : slots d' ≡ slots d
+  pub same : SameMemory d d'
 
 -- bench d stands on memory m and on places that hold ps, and nothing waits
 abbrev pub Made : List ℕ → List PendingWrite → Bench → Type 0
-Made m ps d = (memory d ≡ m) × (d.pending.slots.now ≡ ps) × (queued d ≡ [])
+Made m ps d = (memory d ≡ m) × (slots d ≡ ps) × (queued d ≡ [])
 
 -- memory m and places that hold ps are refused for this reason; memory that is not whole rows is told first
 abbrev pub Unfit : List ℕ → List PendingWrite → MemoryError → Type 0

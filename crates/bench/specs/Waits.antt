@@ -1,12 +1,10 @@
--- A bench: rows of memory, and writes that wait in front of them, oldest first.
+-- Writes that are made durable in the rows of a bench, oldest first.
 -- Assumes nothing.
-use Rattle.std.specs.Prelude.{◌≡◌, ℕ, ◌<◌, ◌≤◌, cond, List, [], ◌∷◌, ◌++◌, length, take, Ok, Err, nat_lt}
+use Rattle.std.specs.Prelude.{◌≡◌, ℕ, ◌<◌, ◌≤◌, cond, List, [], ◌∷◌, length, take, Ok, nat_lt}
 use Rattle.device.specs.declared.pending.PendingWrite.{PendingWrite}
-use Rattle.device.specs.Faults.{Answer}
 use Rattle.device.specs.Sector.{IsPayload}
 use Rattle.device.specs.Rules.{WriteCall}
 use Rattle.device.specs.Memory.{row_count, with_row}
-use Rattle.device.specs.Waiting.{room_in}
 use Rattle.bench.specs.Rows.{readable, rows_mean}
 
 -- memory m with the write w made durable, if there is such a sector
@@ -28,13 +26,3 @@ stored_all (w ∷ ws) m = stored_all ws (stored w m)
 -- memory m once there is room for one more write to wait: with eight waiting, the oldest becomes durable
 abbrev pub room_made : List PendingWrite → List ℕ → List ℕ
 room_made ws m = cond (nat_lt (length ws) 8) m (stored_all (take 1 ws) m)
-
--- the write w joins those that wait in front of memory m, as the youngest
-pub record LetsWait (w : PendingWrite) (ws ws' : List PendingWrite) (m m' : List ℕ) : Type 0 where
-  pub pending : ws' ≡ room_in ws ++ w ∷ []
-  pub memory : m' ≡ room_made ws m
-
--- what a write of b to sector s leaves: accepted, it waits; refused, all is as it was
-abbrev pub WaitsAfter : ℕ → List ℕ → Answer → List PendingWrite → List PendingWrite → List ℕ → List ℕ → Type 0
-WaitsAfter s b (Ok _) ws ws' m m' = LetsWait (record { sector = s; bytes = b }) ws ws' m m'
-WaitsAfter s b (Err _) ws ws' m m' = (ws' ≡ ws) × (m' ≡ m)

@@ -1,11 +1,11 @@
 //! The bench device: writes wait, at most eight, until they are made durable; it never turns off.
-ghost use Rattle.std.specs.Prelude.{◌≡◌, ◌%◌, ◌<◌, ◌≤◌, [], ◌∷◌, ◌++◌, length, IfNone, Ok, MatchOption, MatchResult};
+ghost use Rattle.std.specs.Prelude.{◌≡◌, ◌%◌, ◌<◌, ◌≤◌, [], ◌∷◌, ◌++◌, length, IfNone, IfSome, Ok, MatchOption, MatchResult};
 ghost use Rattle.device.specs.Sector.{IsPayload};
-ghost use Rattle.device.specs.Rules.{ReadCall, WriteCall, FlushCall};
+ghost use Rattle.device.specs.Rules.{WriteCall, FlushCall};
 ghost use Rattle.device.specs.Memory.{row_count};
 ghost use Rattle.device.specs.Waiting.{Absent, NoneFor, Holds, Keeps, room_in, laws_waiting};
 ghost use Rattle.bench.specs.Rows.{rows_mean, rows_laws};
-ghost use Rattle.bench.specs.Waits.{MakesDurable, LetsWait, WaitsAfter, stored_all, room_made};
+ghost use Rattle.bench.specs.Waits.{MakesDurable, room_made};
 
 use crate::rows::{READABLE, ROW, marked, payload_of};
 use device::{Device, Fault, MemoryError, PAYLOAD, PendingWrite, Queue, Rows, youngest_to};
@@ -39,7 +39,9 @@ impl<'a> Bench<'a> {
     /// A device over this memory, as it stands, with nothing waiting. Refused, and all given back, if the memory is not whole
     /// rows, or if there are places for fewer than eight writes.
     pub fn new(rows: &'a mut [u8], slots: &'a mut [PendingWrite]) -> Result<Bench<'a>, Refused<'a>>
-        ensures { MatchResult result (λ d. (length rows.old % 61 ≡ 0) × (8 ≤ length slots.old) × Made rows.old slots.old d × (d.rows.bytes.ghost_name ≡ rows.entry.ghost_name) × (d.pending.slots.ghost_name ≡ slots.entry.ghost_name)) (λ e. Refuses rows.old slots.old e × (e.rows.ghost_name ≡ rows.entry.ghost_name) × (e.slots.ghost_name ≡ slots.entry.ghost_name)) }
+        ensures made { MatchResult result (λ d. (length rows.old % 61 ≡ 0) × (8 ≤ length slots.old) × Made rows.old slots.old d) (λ e. Refuses rows.old slots.old e) }
+        ensures rows { MatchResult result (λ d. d.rows.bytes.ghost_name ≡ rows.entry.ghost_name) (λ e. e.rows.ghost_name ≡ rows.entry.ghost_name) }
+        ensures slots { MatchResult result (λ d. d.pending.slots.ghost_name ≡ slots.entry.ghost_name) (λ e. e.slots.ghost_name ≡ slots.entry.ghost_name) }
     {
         let rows = match Rows::new(rows) {
             Ok(rows) => rows,
@@ -77,7 +79,7 @@ impl<'a> Bench<'a> {
 
 // What a call leaves where it was, as `same` and `pending` say, is about before and after: no type can tell it.
 impl Bench<'_> {
-    ghost use Rattle.bench.specs.Benches.{SamePlaces, means, memory, queued, room_for};
+    ghost use Rattle.bench.specs.Benches.{SameMemory, LetsWait, AfterFlush, means, memory, queued, slots};
 
     // Makes a write durable. A sector that is not there is passed over.
     fn put(&mut self, write: PendingWrite)
@@ -93,19 +95,17 @@ impl Bench<'_> {
         ensures taken { MatchOption result (queued self.old ≡ []) (λ w. queued self.old ≡ w ∷ queued self.new) }
         ensures empty { IfNone result (queued self.new ≡ []) }
         ensures rows { self.new.rows ≡ self.old.rows }
-        ensures places { room_for self.new ≡ room_for self.old }
-        ensures slots { self.new.pending.slots.ghost_name ≡ self.old.pending.slots.ghost_name }
+        ensures slots { slots self.new ≡ slots self.old }
+        ensures same { SameMemory self.old self.new }
     {
         self.pending.pop()
     }
 
     // Makes all writes that wait durable, oldest first.
     fn put_all(&mut self)
-        ensures memory { memory self.new ≡ stored_all (queued self.old) (memory self.old) }
+        ensures done { AfterFlush self.old self.new }
         ensures kept { Keeps (means self.old) (means self.new) }
         ensures rules { FlushCall (Ok tt) (means self.old) (means self.new) }
-        ensures pending { queued self.new ≡ [] }
-        ensures same { SamePlaces self.old self.new }
     {
         while let Some(oldest) = self.take_oldest() {
             self.put(oldest);
@@ -117,7 +117,8 @@ impl Bench<'_> {
         ensures memory { memory self.new ≡ room_made (queued self.old) (memory self.old) }
         ensures kept { Keeps (means self.old) (means self.new) }
         ensures pending { queued self.new ≡ room_in (queued self.old) }
-        ensures same { SamePlaces self.old self.new }
+        ensures slots { slots self.new ≡ slots self.old }
+        ensures same { SameMemory self.old self.new }
     {
         if self.pending.len() < WAITING {
             return;
@@ -130,16 +131,16 @@ impl Bench<'_> {
     // Lets a write wait, behind all others.
     fn let_wait(&mut self, write: PendingWrite)
         ensures rules { IsPayload write.bytes → write.sector < row_count 61 (memory self.old) → WriteCall write.sector write.bytes (Ok tt) (means self.old) (means self.new) }
-        ensures waits { LetsWait write (queued self.old) (queued self.new) (memory self.old) (memory self.new) }
-        ensures same { SamePlaces self.old self.new }
+        ensures waits { LetsWait write self.old self.new }
     {
         self.make_room();
         self.pending.push(write).unwrap(); // a place is free
     }
 
     // The youngest write that waits for the sector.
-    pub(crate) fn youngest(&self, sector: u32) -> Option<PendingWrite>
-        ensures { MatchOption result (NoneFor sector (queued self.now)) (λ w. (IsPayload w.bytes → Holds sector w.bytes (queued self.now))) }
+    fn youngest(&self, sector: u32) -> Option<PendingWrite>
+        ensures found { MatchOption result (NoneFor sector (queued self.now)) (λ w. IsPayload w.bytes → Holds sector w.bytes (queued self.now)) }
+        ensures to { IfSome result (λ w. w.sector ≡ sector) }
     {
         let (older, younger) = self.pending.as_slices();
         // no `or_else`: what its closure answers was not to be had for the proof
@@ -152,19 +153,25 @@ impl Bench<'_> {
 
 // The youngest of these writes, oldest first, that is to the sector.
 fn last_to(writes: &[PendingWrite], sector: u32) -> Option<PendingWrite>
-    ensures { MatchOption result (Absent sector writes.now) (λ w. IsPayload w.bytes → Holds sector w.bytes writes.now) }
+    ensures found { MatchOption result (Absent sector writes.now) (λ w. IsPayload w.bytes → Holds sector w.bytes writes.now) }
+    ensures to { IfSome result (λ w. w.sector ≡ sector) }
 {
     let at = youngest_to(writes, sector)?;
     Some(writes[at])
 }
 
-// `same`, here too, is about before and after: no type can tell it.
 impl<'a> Device for Bench<'a> {
-    ghost use Rattle.bench.specs.Benches.{SamePlaces, means, memory, queued};
+    ghost use Rattle.bench.specs.Benches.{AfterWrite, AfterFlush, means, memory, queued};
 
     ghost means = { means };
 
     ghost laws = { λ d. laws_waiting (queued d) (rows_mean (memory d)) (rows_laws (memory d)) };
+
+    ghost reads = { λ d s x y r d'. d' ≡ d };
+
+    ghost writes = { λ d s b r d'. AfterWrite s b r d d' };
+
+    ghost flushes = { λ d r d'. AfterFlush d d' };
 
     fn count(&self) -> u32 {
         self.rows.count()
@@ -175,10 +182,7 @@ impl<'a> Device for Bench<'a> {
     }
 
     #[tactic(auto, unfolding(device::specs::Memory::held_by))]
-    fn read(&mut self, sector: u32, into: &mut [u8; PAYLOAD]) -> Result<(), Fault>
-        ensures rules { ReadCall sector into.old into.new result (means self.old) (means self.new) }
-        ensures all { self.new ≡ self.old }
-    {
+    fn read(&mut self, sector: u32, into: &mut [u8; PAYLOAD]) -> Result<(), Fault> {
         let row = self.rows.get(sector)?;
         match self.youngest(sector) {
             Some(write) => write.copy_to(into),
@@ -187,23 +191,14 @@ impl<'a> Device for Bench<'a> {
         Ok(())
     }
 
-    fn write(&mut self, sector: u32, bytes: &[u8; PAYLOAD]) -> Result<(), Fault>
-        ensures rules { WriteCall sector bytes.now result (means self.old) (means self.new) }
-        ensures waits { WaitsAfter sector bytes.now result (queued self.old) (queued self.new) (memory self.old) (memory self.new) }
-        ensures same { SamePlaces self.old self.new }
-    {
+    fn write(&mut self, sector: u32, bytes: &[u8; PAYLOAD]) -> Result<(), Fault> {
         self.rows.get(sector)?;
         let bytes = *bytes;
         self.let_wait(PendingWrite { sector, bytes });
         Ok(())
     }
 
-    fn flush(&mut self) -> Result<(), Fault>
-        ensures rules { FlushCall result (means self.old) (means self.new) }
-        ensures memory { memory self.new ≡ stored_all (queued self.old) (memory self.old) }
-        ensures pending { queued self.new ≡ [] }
-        ensures same { SamePlaces self.old self.new }
-    {
+    fn flush(&mut self) -> Result<(), Fault> {
         self.put_all(); // oldest first
         Ok(())
     }

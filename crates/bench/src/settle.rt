@@ -5,7 +5,7 @@ ghost use Rattle.device.specs.Rules.{Settled};
 ghost use Rattle.device.specs.Memory.{row_count, row_in, with_row};
 ghost use Rattle.device.specs.Waiting.{waiting_at};
 ghost use Rattle.bench.specs.Rows.{durable, torn_row};
-ghost use Rattle.bench.specs.Benches.{SamePlaces, means, memory, queued};
+ghost use Rattle.bench.specs.Benches.{SameMemory, means, memory, queued, slots};
 ghost use Rattle.bench.specs.Settling.{Settles, SettlesAt, Reaches, chosen};
 
 use crate::bench::Bench;
@@ -31,7 +31,8 @@ impl Bench<'_> {
         ensures found { Found (means self.old).possible (means self.new).current }
         ensures reaches { Reaches (queued self.old) (memory self.old) }
         ensures pending { queued self.new ≡ [] }
-        ensures same { SamePlaces self.old self.new }
+        ensures slots { slots self.new ≡ slots self.old }
+        ensures same { SameMemory self.old self.new }
     {
         // sectors are numbers here: there is no slice of them to go over
         for sector in 0..self.rows.count() {

@@ -1,6 +1,6 @@
 -- A write is taken: its rules are kept, and writes to distinct sectors stay so.
 -- Assumes nothing.
-use Rattle.std.proofs.Common.{◌≡◌, ℕ, ◌+◌, ◌-◌, ◌<◌, Bool, true, false, cond, ltb, List, [], ◌∷◌, ◌++◌, length, get_or, take, drop, set, Ok, sym, ap, ◌∙◌, subst, inl, inr, arith}
+use Rattle.std.proofs.Common.{◌≡◌, ℕ, zero, suc, ◌+◌, ◌-◌, ◌<◌, Bool, true, false, cond, ltb, List, [], ◌∷◌, ◌++◌, length, get_or, take, drop, set, Ok, sym, ap, ◌∙◌, subst, inl, inr, arith}
 use Rattle.std.specs.List.{refill}
 use Rattle.std.proofs.lemmas.List.{take-append-drop, drop_more, length-take-le, set-append_right, length-set, take-append-le, take_all}
 use Rattle.device.specs.declared.pending.PendingWrite.{PendingWrite}
@@ -10,6 +10,15 @@ use Rattle.device.specs.Waiting.{Absent, YoungestAt, room_in, with_waiting}
 use Rattle.device.proofs.Lists.{absent_waiting, absent_from}
 use Rattle.device.proofs.Waits.{joins, replaces, keeps_write}
 use Rattle.cache.specs.Held.{Distinct, Replaced, Takes, MakesRoom}
+
+absent_at : (s : ℕ) (ws : List PendingWrite) (k : ℕ) (d : PendingWrite) → Absent s ws → k < length ws → (get_or ws k d).sector ≡ s → ⊥
+absent_at s [] k d a h e = omega arith
+absent_at s (w ∷ ws) zero d a h e = a.0 e
+absent_at s (w ∷ ws) (suc k) d a h e = absent_at s ws k d a.1 (omega arith) e
+
+-- a sector with a write at some place is not absent
+pub not_absent : (s : ℕ) (ws : List PendingWrite) (k : ℕ) → PendingWrite → YoungestAt s ws k → Absent s ws → ⊥
+not_absent s ws k d p a = absent_at s ws k d a p.0 (p.1 d)
 
 -- what an assignment to a place leaves
 pub assigned : (ws : List PendingWrite) (k : ℕ) (w : PendingWrite) → refill (length ws) ws (set ws k w) ≡ set ws k w

@@ -6,12 +6,13 @@ use Rattle.std.proofs.lemmas.List.{drop_more}
 use Rattle.device.specs.declared.fault.Fault.TheVariants.{Off, NoSector, Torn}
 use Rattle.device.specs.declared.fault.Fault.{Fault}
 use Rattle.device.specs.declared.pending.PendingWrite.{PendingWrite}
-use Rattle.device.specs.Faults.{number, returned}
+use Rattle.device.specs.Faults.{Answer, number, returned}
 use Rattle.device.specs.Rules.{Meaning, NoneAdded}
 use Rattle.device.specs.Waiting.{with_waiting, Keeps, Cut}
 use Rattle.device.proofs.Waits.{passed_on, added_on, past_dropped, keeps_refl, keeps_then, waits_on}
 use Rattle.device.proofs.Calls.{err_returned}
 use Rattle.cache.specs.Held.{Passed, MakesRoom, PassesAll}
+use Rattle.cache.specs.Below.{PassedOn, AllPassedOn}
 
 is_off : (e : Fault) → number e ≡ 1 → e ≡ Off
 is_off Off h = refl
@@ -77,3 +78,15 @@ module _ (ws : List PendingWrite) (k : ℕ) (d : PendingWrite) (m m₁ m₂ : Me
 
   pub all_cut : (e : Fault) → Passed (get_or ws k d) (Err e) m₁ m₂ → PassesAll (Err e) ws m m₂
   all_cut e p = let s = stops (get_or ws k d) e m₁ m₂ p in (s.off, cut_in ws (drop (k + 1) ws) (get_or ws k d) e m m₁ m₂ before s)
+
+-- What is still to be passed on carries on what has been: it tells of all.
+module _ {D : Type 0} (Means : D → Meaning) (WriteMade : D → ℕ → List ℕ → Answer → D → Type 0) (k : ℕ) (ws : List PendingWrite) (v : PendingWrite) (d d₁ d₂ : D) (inside : k < length ws)
+    (so_far : (r : Answer) (e : D) → AllPassedOn Means WriteMade (drop k ws) r d₁ e → AllPassedOn Means WriteMade ws r d e) where
+  all_told : (r : Answer) (e : D) → AllPassedOn Means WriteMade (get_or ws k v ∷ drop (k + 1) ws) r d₁ e → AllPassedOn Means WriteMade ws r d e
+  all_told r e h = so_far r e (subst (λ (z : List PendingWrite). AllPassedOn Means WriteMade z r d₁ e) (sym (drop_more ws k v inside)) h)
+
+  pub one_more_sent : PassedOn Means WriteMade (get_or ws k v) (Ok tt) d₁ d₂ → (r : Answer) (e : D) → AllPassedOn Means WriteMade (drop (k + 1) ws) r d₂ e → AllPassedOn Means WriteMade ws r d e
+  one_more_sent p r e rest = all_told r e (inr (d₂, p, rest))
+
+  pub last_sent : (f : Fault) → PassedOn Means WriteMade (get_or ws k v) (Err f) d₁ d₂ → AllPassedOn Means WriteMade ws (Err f) d d₂
+  last_sent f p = all_told (Err f) d₂ (inl ((λ e. err_returned (Err f) f refl (ap returned e)), p))

@@ -1,10 +1,11 @@
 //! A write-back cache over any device: it holds up to eight written sectors and passes them on when it must.
 #![tactic(auto)]
 
-ghost use Rattle.std.specs.Prelude.{◌≡◌, ◌<◌, ◌≤◌, true, ◌⊎◌, [], length, MatchOption, MatchResult};
-ghost use Rattle.device.specs.Rules.{ReadCall, WriteCall, FlushCall};
+ghost use Rattle.std.specs.Prelude.{◌≡◌, ◌<◌, ◌≤◌, true, ◌⊎◌, [], length, MatchOption, MatchResult, slice_index_or};
+ghost use Rattle.device.specs.Rules.{WriteCall};
 ghost use Rattle.device.specs.Waiting.{Absent, YoungestAt, with_waiting, laws_waiting};
-ghost use Rattle.cache.specs.Held.{Distinct, Distinct-prop, Passed, MakesRoom, PassesAll, TurnsAway, HeldAfter, HeldAfterFlush};
+ghost use Rattle.cache.specs.Held.{Distinct, Distinct-prop, Passed, MakesRoom, PassesAll, TurnsAway, HeldAfter};
+ghost use Rattle.cache.specs.Below.{PassedOn, AllPassedOn, ReadsBelow, WritesBelow, FlushesBelow};
 
 use arrayvec::ArrayVec;
 use device::{Device, Fault, PAYLOAD, PendingWrite, youngest_to};
@@ -66,6 +67,7 @@ impl<D: Device> Cache<D> {
     // Makes room for one more: if as many are held as may be, the one held longest is passed on.
     fn make_room(&mut self) -> Result<(), Fault>
         ensures free { length self.old.held.items < 8 → self.new.below ≡ self.old.below }
+        ensures evicts { length self.old.held.items ≡ 8 → (d : PendingWrite) → PassedOn D.means D.writes (slice_index_or self.old.held.items 0 d) result self.old.below self.new.below }
         ensures room { MakesRoom result self.old.held.items self.new.held.items (D.means self.old.below) (D.means self.new.below) }
     {
         if self.held.is_full() {
@@ -79,7 +81,8 @@ impl<D: Device> Cache<D> {
     fn hold(&mut self, write: PendingWrite) -> Result<(), Fault>
         ensures rules { (D.means self.old.below).on ≡ true → write.sector < (D.means self.old.below).count → WriteCall write.sector write.bytes result (with_waiting self.old.held.items (D.means self.old.below)) (with_waiting self.new.held.items (D.means self.new.below)) }
         ensures held { HeldAfter write.sector write.bytes result self.old.held.items self.new.held.items }
-        ensures below { (length self.old.held.items < 8) ⊎ (Absent write.sector self.old.held.items → ⊥) → self.new.below ≡ self.old.below }
+        ensures free { (length self.old.held.items < 8) ⊎ (Absent write.sector self.old.held.items → ⊥) → self.new.below ≡ self.old.below }
+        ensures evicts { length self.old.held.items ≡ 8 → Absent write.sector self.old.held.items → (d : PendingWrite) → PassedOn D.means D.writes (slice_index_or self.old.held.items 0 d) result self.old.below self.new.below }
     {
         if let Some(place) = self.place_of(write.sector) {
             self.held[place] = write;
@@ -93,7 +96,8 @@ impl<D: Device> Cache<D> {
 
 // Passes a write on to the device below; a write to a sector that this does not have is dropped.
 fn pass_on<D: Device>(below: &mut D, write: PendingWrite) -> Result<(), Fault>
-    ensures { Passed write result (D.means below.old) (D.means below.new) }
+    ensures rules { Passed write result (D.means below.old) (D.means below.new) }
+    ensures on { PassedOn D.means D.writes write result below.old below.new }
 {
     if write.sector >= below.count() {
         return Ok(());
@@ -103,7 +107,8 @@ fn pass_on<D: Device>(below: &mut D, write: PendingWrite) -> Result<(), Fault>
 
 // Passes the writes on, the first one first.
 fn pass_all_on<D: Device>(below: &mut D, writes: &[PendingWrite]) -> Result<(), Fault>
-    ensures { PassesAll result writes.now (D.means below.old) (D.means below.new) }
+    ensures rules { PassesAll result writes.now (D.means below.old) (D.means below.new) }
+    ensures on { AllPassedOn D.means D.writes writes.now result below.old below.new }
 {
     for write in writes {
         pass_on(below, *write)?;
@@ -111,11 +116,16 @@ fn pass_all_on<D: Device>(below: &mut D, writes: &[PendingWrite]) -> Result<(), 
     Ok(())
 }
 
-// The clauses spell out what a cache means: over any device its name in a clause is `⟦<Cache<D> as Device>⟧.means`, which is no plainer.
 impl<D: Device> Device for Cache<D> {
     ghost means = { λ d. with_waiting d.held.items (D.Device.means d.below) };
 
     ghost laws = { λ d. laws_waiting d.held.items (D.Device.means d.below) (D.Device.laws d.below) };
+
+    ghost reads = { λ c s x y r c'. ReadsBelow D.Device.means D.Device.reads s x y r c.held.items c'.held.items c.below c'.below };
+
+    ghost writes = { λ c s b r c'. WritesBelow D.Device.means D.Device.writes s b r c.held.items c'.held.items c.below c'.below };
+
+    ghost flushes = { λ c r c'. FlushesBelow D.Device.means D.Device.writes D.Device.flushes r c.held.items c'.held.items c.below c'.below };
 
     fn count(&self) -> u32 {
         self.below.count() // nothing is added
@@ -125,11 +135,8 @@ impl<D: Device> Device for Cache<D> {
         self.below.is_on() // it has no switch of its own
     }
 
-    fn read(&mut self, sector: u32, into: &mut [u8; PAYLOAD]) -> Result<(), Fault>
-        ensures rules { ReadCall sector into.old into.new result (with_waiting self.old.held.items (D.means self.old.below)) (with_waiting self.new.held.items (D.means self.new.below)) }
-        ensures held { self.new.held ≡ self.old.held }
-    {
-        self.admit(sector)?;
+    fn read(&mut self, sector: u32, into: &mut [u8; PAYLOAD]) -> Result<(), Fault> {
+        self.admit(sector)?; // refused, it leaves the caller's bytes
         match self.place_of(sector) {
             Some(place) => {
                 self.held[place].copy_to(into);
@@ -139,20 +146,13 @@ impl<D: Device> Device for Cache<D> {
         }
     }
 
-    fn write(&mut self, sector: u32, bytes: &[u8; PAYLOAD]) -> Result<(), Fault>
-        ensures rules { WriteCall sector bytes.now result (with_waiting self.old.held.items (D.means self.old.below)) (with_waiting self.new.held.items (D.means self.new.below)) }
-        ensures held { HeldAfter sector bytes.now result self.old.held.items self.new.held.items }
-        ensures below { (length self.old.held.items < 8) ⊎ (Absent sector self.old.held.items → ⊥) → self.new.below ≡ self.old.below }
-    {
-        self.admit(sector)?;
+    fn write(&mut self, sector: u32, bytes: &[u8; PAYLOAD]) -> Result<(), Fault> {
+        self.admit(sector)?; // refused, it does nothing below
         let bytes = *bytes;
         self.hold(PendingWrite { sector, bytes })
     }
 
-    fn flush(&mut self) -> Result<(), Fault>
-        ensures rules { FlushCall result (with_waiting self.old.held.items (D.means self.old.below)) (with_waiting self.new.held.items (D.means self.new.below)) }
-        ensures held { HeldAfterFlush result self.old.held.items self.new.held.items }
-    {
+    fn flush(&mut self) -> Result<(), Fault> {
         pass_all_on(&mut self.below, &self.held)?;
         self.below.flush()?;
         self.held.clear();

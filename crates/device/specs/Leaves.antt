@@ -1,6 +1,6 @@
--- Which images a cut can leave after a call, and after two writes and a flush.
+-- Which images a cut can leave after a call, and after two writes and a flush, and which calls those are.
 -- Assumes nothing.
-use Rattle.std.specs.Prelude.{◌≡◌, ℕ, ◌<◌, ◌≤◌, ◌⊎◌, ◌↔◌, List, ◌≢◌}
+use Rattle.std.specs.Prelude.{◌≡◌, ℕ, ◌<◌, ◌≤◌, ◌⊎◌, ◌↔◌, List, Ok, ◌≢◌}
 use Rattle.device.specs.Faults.{Answer, returned}
 use Rattle.device.specs.Sector.{payload, torn, Image, Possible, Found}
 use Rattle.device.specs.Rules.{Meaning, CountStays, StaysOff, TellsPower, Unchanged, Puts, Settled}
@@ -24,6 +24,12 @@ MaybeWritten s b F σ = (τ : Image) × F τ × SameBut s τ σ × ((σ s ≡ τ
 -- g is f with a in sector s, and then b in sector t
 abbrev pub PutsBoth : ℕ → List ℕ → ℕ → List ℕ → Image → Image → Type 0
 PutsBoth s a t b f g = (h : Image) × Puts s a f h × Puts t b h g
+
+-- The calls that are made for it on a device, d before and d' after: the first write, if it is accepted the second, and if that is the
+-- flush; the answer is the last one's. `WriteMade` and `FlushMade` tell what the device's own calls do.
+abbrev pub MakesBoth : {D : Type 0} → (D → ℕ → List ℕ → Answer → D → Type 0) → (D → Answer → D → Type 0) → ℕ → List ℕ → ℕ → List ℕ → Answer → D → D → Type 0
+MakesBoth {D} WriteMade FlushMade s a t b r d d' = ((r ≢ Ok tt) × WriteMade d s a r d')
+    ⊎ ((e : D) × WriteMade d s a (Ok tt) e × (((r ≢ Ok tt) × WriteMade e t b r d') ⊎ ((f : D) × WriteMade e t b (Ok tt) f × FlushMade f r d')))
 
 -- Two writes and a flush. Accepted, both payloads are current and a cut leaves the current image, and no other; the device is off
 -- exactly if the answer is 1. With a sector that is not below the count, and only then, the answer is 2, unless it is 1: if it is the

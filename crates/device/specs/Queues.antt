@@ -1,6 +1,7 @@
--- The list that a queue stands for, oldest first, and for how many it has places; the contracts of a queue speak of these.
+-- The list that a queue stands for, oldest first, for how many it has places, and what a push does to them; the contracts of a queue
+-- speak of these.
 -- Place 0 follows the last place. Assumes nothing.
-use Rattle.std.specs.Prelude.{◌≡◌, ℕ, ◌<◌, List, ◌++◌, length, take, drop, slice_index_or}
+use Rattle.std.specs.Prelude.{◌≡◌, ℕ, ◌<◌, List, ◌++◌, length, take, drop, slice_index_or, slice_set}
 use Rattle.device.specs.declared.queue.Queue.{Queue}
 
 -- so many of the places, from the first on
@@ -12,6 +13,10 @@ waiting q = ring q.slots.now q.first q.len
 
 abbrev pub places : {X : Type 0} → Queue X → ℕ
 places q = length q.slots.now
+
+-- x is put in one of the places, and all others stay as they are
+abbrev pub PutsOne : {X : Type 0} → X → List X → List X → Type 0
+PutsOne x xs ys = (k : ℕ) × (k < length xs) × (ys ≡ slice_set xs k x)
 
 -- before `x` come `k` others
 abbrev pub At : {X : Type 0} → List X → ℕ → X → Type 0

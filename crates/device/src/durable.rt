@@ -1,5 +1,5 @@
 //! Writes that last, over any device. Proved from the device's contract alone.
-ghost use Rattle.device.specs.Leaves.{WritesBoth};
+ghost use Rattle.device.specs.Leaves.{WritesBoth, MakesBoth};
 
 use crate::{Device, Fault, PAYLOAD};
 
@@ -11,7 +11,8 @@ pub fn write_both<D: Device>(
     second: u32,
     b: &[u8; PAYLOAD],
 ) -> Result<(), Fault>
-    ensures { WritesBoth first a.now second b.now result (D.means device.old) (D.means device.new) }
+    ensures rules { WritesBoth first a.now second b.now result (D.means device.old) (D.means device.new) }
+    ensures made { MakesBoth D.writes D.flushes first a.now second b.now result device.old device.new }
 {
     device.write(first, a)?;
     device.write(second, b)?;

@@ -6,7 +6,7 @@ ghost use Rattle.device.specs.Waiting.{NoneFrom, YoungestAt};
 use crate::PAYLOAD;
 
 /// A sector and the bytes that are to be written there. It is a plain value: whoever keeps some decides what they mean.
-#[derive(Clone, Copy, Debug, Default)]
+#[derive(Clone, Copy, Debug, Default, PartialEq, Eq)]
 pub struct PendingWrite {
     pub sector: u32,
     pub bytes: [u8; PAYLOAD],
@@ -24,7 +24,7 @@ impl PendingWrite {
     }
 }
 
-/// A place for a pending write, before one stands there: the default, as a constant that an array can be made of.
+/// A write of zeros to sector 0, as the default, for places where none stands yet: a constant, so that an array can be made of it.
 pub const BLANK: PendingWrite = PendingWrite {
     sector: 0,
     bytes: [0; PAYLOAD],

@@ -15,7 +15,7 @@ pub struct Queue<'a, T> {
 
 // That a call leaves the queue on the same slice is a clause of each, `same`: it is about before and after, which no type can tell.
 impl<'a, T: Copy> Queue<'a, T> {
-    ghost use Rattle.device.specs.Queues.{ring, waiting, places, At};
+    ghost use Rattle.device.specs.Queues.{ring, waiting, places, PutsOne, At};
 
     /// An empty queue in these places, which it leaves as they are.
     pub fn new(slots: &'a mut [T]) -> Queue<'a, T>
@@ -64,7 +64,7 @@ impl<'a, T: Copy> Queue<'a, T> {
 
     /// Puts one behind all others, or gives it back if every place is taken.
     pub fn push(&mut self, x: T) -> Result<(), T>
-        ensures put { MatchResult result (λ _. (waiting self.new ≡ waiting self.old ++ x ∷ []) × (length (waiting self.old) < places self.old)) (λ y. (y ≡ x) × (length (waiting self.old) ≡ places self.old) × (self.new ≡ self.old)) }
+        ensures put { MatchResult result (λ _. (waiting self.new ≡ waiting self.old ++ x ∷ []) × (length (waiting self.old) < places self.old) × PutsOne x self.old.slots.now self.new.slots.now) (λ y. (y ≡ x) × (length (waiting self.old) ≡ places self.old) × (self.new ≡ self.old)) }
         ensures room { places self.new ≡ places self.old }
         ensures same { self.new.slots.ghost_name ≡ self.old.slots.ghost_name }
     {

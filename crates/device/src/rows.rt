@@ -15,7 +15,8 @@ impl<'a, const ROW: usize> Rows<'a, ROW> {
     /// Rows in this memory, as it stands. If it does not end where a row ends, it is given back as it was.
     // A borrow ends by itself; it is given back so that the contract can say what it holds then.
     pub fn new(bytes: &'a mut [u8]) -> Result<Rows<'a, ROW>, &'a mut [u8]>
-        ensures { MatchResult result (λ r. (length bytes.old % ROW ≡ 0) × (r.bytes.now ≡ bytes.old) × (r.bytes.ghost_name ≡ bytes.entry.ghost_name)) (λ b. (length bytes.old % ROW ≢ 0) × (b.now ≡ bytes.old) × (b.ghost_name ≡ bytes.entry.ghost_name)) }
+        ensures made { MatchResult result (λ r. (length bytes.old % ROW ≡ 0) × (r.bytes.now ≡ bytes.old)) (λ b. (length bytes.old % ROW ≢ 0) × (b.now ≡ bytes.old)) }
+        ensures same { MatchResult result (λ r. r.bytes.ghost_name ≡ bytes.entry.ghost_name) (λ b. b.ghost_name ≡ bytes.entry.ghost_name) }
     {
         if !bytes.len().is_multiple_of(ROW) {
             return Err(bytes);

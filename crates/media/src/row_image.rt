@@ -1,8 +1,7 @@
 //! The row image: a device over the caller's memory, 64 bytes a sector. What is written lasts at once, and it never turns off.
 ghost use Rattle.std.specs.Prelude.{◌≡◌, ◌%◌, length, MatchResult, ◌≢◌};
-ghost use Rattle.device.specs.Rules.{ReadCall, WriteCall, FlushCall};
-ghost use Rattle.device.specs.Memory.{with_row};
-ghost use Rattle.media.specs.Rows.{rows_mean, row_for};
+ghost use Rattle.media.specs.Rows.{rows_mean};
+ghost use Rattle.media.specs.Cards.{PutsInRow};
 ghost use Rattle.media.specs.Lawful.{rows_laws};
 
 use crate::memory::{MemoryError, Refused};
@@ -18,7 +17,8 @@ pub struct RowImage<'a> {
 impl<'a> RowImage<'a> {
     /// A device over this memory, as it stands; refused, and given back, if it is not whole rows.
     pub fn new(rows: &'a mut [u8]) -> Result<RowImage<'a>, Refused<'a>>
-        ensures { MatchResult result (λ d. (length rows.old % 64 ≡ 0) × (d.rows.bytes.now ≡ rows.old) × (d.rows.bytes.ghost_name ≡ rows.entry.ghost_name)) (λ e. (length rows.old % 64 ≢ 0) × (e.reason ≡ MemoryError.NotWholeRows) × (e.rows.now ≡ rows.old) × (e.rows.ghost_name ≡ rows.entry.ghost_name)) }
+        ensures made { MatchResult result (λ d. (length rows.old % 64 ≡ 0) × (d.rows.bytes.now ≡ rows.old)) (λ e. (length rows.old % 64 ≢ 0) × (e.reason ≡ MemoryError.NotWholeRows) × (e.rows.now ≡ rows.old)) }
+        ensures same { MatchResult result (λ d. d.rows.bytes.ghost_name ≡ rows.entry.ghost_name) (λ e. e.rows.ghost_name ≡ rows.entry.ghost_name) }
     {
         match Rows::new(rows) {
             Ok(rows) => Ok(RowImage { rows }),
@@ -38,11 +38,16 @@ impl<'a> RowImage<'a> {
     }
 }
 
-// That a call leaves it on the same memory, `same`, is about before and after: no type can tell it.
 impl<'a> Device for RowImage<'a> {
     ghost means = { λ d. rows_mean d.rows.bytes.now };
 
     ghost laws = { λ d. rows_laws d.rows.bytes.now };
+
+    ghost reads = { λ d s x y r d'. d' ≡ d };
+
+    ghost writes = { λ d s b r d'. PutsInRow s b r d d' };
+
+    ghost flushes = { λ d r d'. d' ≡ d };
 
     fn count(&self) -> u32 {
         self.rows.count()
@@ -53,30 +58,18 @@ impl<'a> Device for RowImage<'a> {
     }
 
     #[tactic(auto, unfolding(device::specs::Memory::held_by))]
-    fn read(&mut self, sector: u32, into: &mut [u8; PAYLOAD]) -> Result<(), Fault>
-        ensures rules { ReadCall sector into.old into.new result (rows_mean self.old.rows.bytes.now) (rows_mean self.new.rows.bytes.now) }
-        ensures memory { self.new.rows.bytes.now ≡ self.old.rows.bytes.now }
-        ensures same { self.new.rows.bytes.ghost_name ≡ self.old.rows.bytes.ghost_name }
-    {
+    fn read(&mut self, sector: u32, into: &mut [u8; PAYLOAD]) -> Result<(), Fault> {
         let row = self.rows.get(sector)?;
         let bytes = payload_of(sector, row)?;
         into.copy_from_slice(bytes);
         Ok(())
     }
 
-    fn write(&mut self, sector: u32, bytes: &[u8; PAYLOAD]) -> Result<(), Fault>
-        ensures rules { WriteCall sector bytes.now result (rows_mean self.old.rows.bytes.now) (rows_mean self.new.rows.bytes.now) }
-        ensures memory { MatchResult result (λ _. self.new.rows.bytes.now ≡ with_row 64 self.old.rows.bytes.now sector (row_for sector bytes.now)) (λ _. self.new.rows.bytes.now ≡ self.old.rows.bytes.now) }
-        ensures same { self.new.rows.bytes.ghost_name ≡ self.old.rows.bytes.ghost_name }
-    {
+    fn write(&mut self, sector: u32, bytes: &[u8; PAYLOAD]) -> Result<(), Fault> {
         self.rows.put(sector, &row_for(sector, bytes)) // it lasts at once
     }
 
-    fn flush(&mut self) -> Result<(), Fault>
-        ensures rules { FlushCall result (rows_mean self.old.rows.bytes.now) (rows_mean self.new.rows.bytes.now) }
-        ensures memory { self.new.rows.bytes.now ≡ self.old.rows.bytes.now }
-        ensures same { self.new.rows.bytes.ghost_name ≡ self.old.rows.bytes.ghost_name }
-    {
+    fn flush(&mut self) -> Result<(), Fault> {
         Ok(()) // nothing waits
     }
 }

@@ -1,32 +1,47 @@
--- What a call on a switch does to the device below it, which means m before the call and m' after it.
--- `Same` says that the device below is the same. Assumes nothing.
-use Rattle.std.specs.Prelude.{◌≡◌, ℕ, Bool, true, ◌&&◌, List, Err}
+-- What a call on a switch does: it counts the call, and passes it on to the device below or not. `ReadMade`, `WriteMade` and `FlushMade`
+-- tell what the calls of the device below do, so that a call passed on is one call there. Assumes nothing.
+use Rattle.std.specs.Prelude.{◌≡◌, ℕ, Bool, true, ◌&&◌, List, Err, ◌≢◌}
 use Rattle.std.proofs.lemmas.Bool.{and_parts}
 use Rattle.device.specs.declared.fault.Fault.TheVariants.{Off}
 use Rattle.device.specs.Faults.{Answer}
-use Rattle.device.specs.Rules.{Meaning, meaning, Laws, ReadCall, WriteCall, FlushCall}
-use Rattle.switch.specs.Fates.{ByFate}
-use Rattle.switch.specs.declared.fuse.Fuse.{Fuse}
+use Rattle.device.specs.Rules.{Meaning, meaning, Laws, WriteCall}
+use Rattle.switch.specs.Fates.{fate, Counts}
+use Rattle.switch.specs.declared.fuse.Fate.TheVariants.{Refused, Cut, Passed}
 use Rattle.switch.specs.declared.fuse.LastWrite.{LastWrite}
 use Rattle.switch.specs.declared.fuse.LastWrite.TheVariants.{Lost, Reached}
+use Rattle.switch.specs.declared.switch.Switch.{Switch}
 
--- A read: passed on, it is the read below, with the same bytes and answer. Else it answers that the device is off,
--- and leaves the device below and the caller's bytes, which held x and then hold y.
-abbrev pub ReadsBelow : Fuse → ℕ → List ℕ → List ℕ → Answer → Type 0 → Meaning → Meaning → Type 0
-ReadsBelow f s x y r Same m m' = ByFate f ((r ≡ Err Off) × (y ≡ x) × Same) ((r ≡ Err Off) × (y ≡ x) × Same) (ReadCall s x y r m m')
+-- the call is counted, and the choice for the last write stays
+pub record Counted {D : Type 0} (d d' : Switch D) : Type 0 where
+  pub fuse : Counts d.fuse d'.fuse
+  pub last : d'.last ≡ d.last
 
--- the write within which the switch turns off: below, it is a write with some answer, or nothing
-abbrev pub LastWrites : LastWrite → ℕ → List ℕ → Type 0 → Meaning → Meaning → Type 0
-LastWrites Lost s b Same m m' = Same
-LastWrites Reached s b Same m m' = (a : Answer) × WriteCall s b a m m'
+-- A read of sector s: passed on, it is one read below, with the same bytes and answer. Else it answers that the device is off, and leaves
+-- the device below and the caller's bytes, which held x and then hold y.
+pub record ReadsBelow {D : Type 0} (ReadMade : D → ℕ → List ℕ → List ℕ → Answer → D → Type 0) (s : ℕ) (x y : List ℕ) (r : Answer) (d d' : Switch D) : Type 0 where
+  pub counted : Counted d d'
+  pub passed : fate d.fuse ≡ Passed → ReadMade d.below s x y r d'.below
+  pub stopped : (fate d.fuse ≢ Passed) → (r ≡ Err Off) × (y ≡ x) × (d'.below ≡ d.below)
 
--- A write: passed on, it is the write below, with the same answer. Else it answers that the device is off.
-abbrev pub WritesBelow : Fuse → LastWrite → ℕ → List ℕ → Answer → Type 0 → Meaning → Meaning → Type 0
-WritesBelow f l s b r Same m m' = ByFate f ((r ≡ Err Off) × Same) ((r ≡ Err Off) × LastWrites l s b Same m m') (WriteCall s b r m m')
+-- The write of b to sector s within which the switch turns off: below, it is one write with some answer, by the rules, or nothing.
+-- `Means` is what the device below means.
+abbrev pub LastWrites : {D : Type 0} → (D → Meaning) → (D → ℕ → List ℕ → Answer → D → Type 0) → LastWrite → ℕ → List ℕ → D → D → Type 0
+LastWrites Means WriteMade Lost s b d d' = d' ≡ d
+LastWrites Means WriteMade Reached s b d d' = (a : Answer) × WriteMade d s b a d' × WriteCall s b a (Means d) (Means d')
 
--- A flush: passed on, it is the flush below, with the same answer. Else it answers that the device is off, and does nothing.
-abbrev pub FlushesBelow : Fuse → Answer → Type 0 → Meaning → Meaning → Type 0
-FlushesBelow f r Same m m' = ByFate f ((r ≡ Err Off) × Same) ((r ≡ Err Off) × Same) (FlushCall r m m')
+-- A write of b to sector s: passed on, it is one write below, with the same answer. Else it answers that the device is off.
+pub record WritesBelow {D : Type 0} (Means : D → Meaning) (WriteMade : D → ℕ → List ℕ → Answer → D → Type 0) (s : ℕ) (b : List ℕ) (r : Answer) (d d' : Switch D) : Type 0 where
+  pub counted : Counted d d'
+  pub passed : fate d.fuse ≡ Passed → WriteMade d.below s b r d'.below
+  pub stopped : (fate d.fuse ≢ Passed) → r ≡ Err Off
+  pub cut : fate d.fuse ≡ Cut → LastWrites Means WriteMade d.last s b d.below d'.below
+  pub refused : fate d.fuse ≡ Refused → d'.below ≡ d.below
+
+-- A flush: passed on, it is one flush below, with the same answer. Else it answers that the device is off, and does nothing below.
+pub record FlushesBelow {D : Type 0} (FlushMade : D → Answer → D → Type 0) (r : Answer) (d d' : Switch D) : Type 0 where
+  pub counted : Counted d d'
+  pub passed : fate d.fuse ≡ Passed → FlushMade d.below r d'.below
+  pub stopped : (fate d.fuse ≢ Passed) → (r ≡ Err Off) × (d'.below ≡ d.below)
 
 -- what a device that means m is under a switch: it is on while both are
 abbrev pub switched : Bool → Meaning → Meaning

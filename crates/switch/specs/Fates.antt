@@ -1,6 +1,6 @@
 -- What comes of each call on a switch, and how its fuse counts them.
 -- Assumes nothing.
-use Rattle.std.specs.Prelude.{◌≡◌, ℕ, zero, suc, Bool, true, false}
+use Rattle.std.specs.Prelude.{◌≡◌, ℕ, zero, suc, ◌+◌, ◌<◌, ◌≤◌, Bool, true, false, ◌⊎◌}
 use Rattle.switch.specs.declared.fuse.Fate.{Fate}
 use Rattle.switch.specs.declared.fuse.Fate.TheVariants.{Refused, Cut, Passed}
 use Rattle.switch.specs.declared.fuse.Fuse.{Fuse}
@@ -32,8 +32,16 @@ Counts Lasting f' = f' ≡ Lasting
 Counts (After zero) f' = f' ≡ Blown
 Counts (After (suc calls)) f' = f' ≡ After calls
 
--- R holds if the next call is refused, C if the switch turns off within it, and P if it is passed on
-pub record ByFate (f : Fuse) (R C P : Type 0) : Type 0 where
-  pub refused : fate f ≡ Refused → R
-  pub cut : fate f ≡ Cut → C
-  pub passed : fate f ≡ Passed → P
+-- n calls take f to f'
+abbrev pub Ran : ℕ → Fuse → Fuse → Type 0
+Ran zero f f' = f' ≡ f
+Ran (suc n) f f' = (g : Fuse) × Counts f g × Ran n g f'
+
+-- What is so after n calls on a switch that is to turn off within its k-th, or never if k is 0, where f is its fuse then:
+-- whether it has not turned off, and what comes of the next call.
+pub record Planned (k n : ℕ) (f : Fuse) : Type 0 where
+  pub on : (k ≡ 0) ⊎ (n < k) → is_on f ≡ true
+  pub off : 0 < k → k ≤ n → is_on f ≡ false
+  pub passed : (k ≡ 0) ⊎ (n + 1 < k) → fate f ≡ Passed
+  pub cut : n + 1 ≡ k → fate f ≡ Cut
+  pub refused : 0 < k → k ≤ n → fate f ≡ Refused

@@ -13,7 +13,7 @@ pub enum LastWrite {
 
 /// What comes of a call on a switch.
 #[derive(Clone, Copy)]
-pub enum Fate {
+pub(crate) enum Fate {
     /// the switch is off, and stays so
     Refused,
     /// the switch turns off within the call
@@ -24,7 +24,7 @@ pub enum Fate {
 
 /// Whether a switch is on, and when it turns off.
 #[derive(Clone, Copy, Debug, PartialEq, Eq)]
-pub enum Fuse {
+pub(crate) enum Fuse {
     /// it has turned off, and stays so
     Blown,
     /// it never turns off
@@ -35,14 +35,14 @@ pub enum Fuse {
 
 impl Fuse {
     /// Whether the switch is still on.
-    pub fn is_on(self) -> bool
+    pub(crate) fn is_on(self) -> bool
         ensures { result ≡ is_on self }
     {
         self != Fuse::Blown
     }
 
     /// Counts a call, and tells what comes of it.
-    pub fn count_call(&mut self) -> Fate
+    pub(crate) fn count_call(&mut self) -> Fate
         ensures told { result ≡ fate self.old }
         ensures counted { Counts self.old self.new }
     {

@@ -1,7 +1,6 @@
 //! A power switch: a device over any device, which turns off within a chosen call.
-ghost use Rattle.std.specs.Prelude.{◌≡◌, true, ◌&&◌};
-ghost use Rattle.device.specs.Rules.{ReadCall, WriteCall, FlushCall};
-ghost use Rattle.switch.specs.Fates.{Counts, fuse_for, is_on};
+ghost use Rattle.std.specs.Prelude.{◌≡◌, ℕ, true, ◌&&◌};
+ghost use Rattle.switch.specs.Fates.{Ran, Planned, fuse_for, is_on};
 ghost use Rattle.switch.specs.Below.{ReadsBelow, WritesBelow, FlushesBelow, switched, switched_laws};
 
 use crate::fuse::{Fate, Fuse, LastWrite};
@@ -21,6 +20,7 @@ impl<D: Device> Switch<D> {
         ensures below { result.below ≡ below }
         ensures on { is_on result.fuse ≡ true }
         ensures fuse { result.fuse ≡ fuse_for call }
+        ensures planned { (n : ℕ) (f : Fuse) → Ran n result.fuse f → Planned call n f }
         ensures last { result.last ≡ last }
     {
         let fuse = call.checked_sub(1).map_or(Fuse::Lasting, Fuse::After);
@@ -42,12 +42,16 @@ impl<D: Device> Switch<D> {
     }
 }
 
-// What a call makes of the fuse, and that it leaves `last`, is about before and after: no type can tell it. And the clauses spell out
-// what a switch means: over any device its name in a clause is `⟦<Switch<D> as Device>⟧.means`, which is no plainer.
 impl<D: Device> Device for Switch<D> {
     ghost means = { λ d. switched (is_on d.fuse) (D.Device.means d.below) };
 
     ghost laws = { λ d. switched_laws (is_on d.fuse) (D.Device.means d.below) (D.Device.laws d.below) };
+
+    ghost reads = { λ d s x y r d'. ReadsBelow D.Device.reads s x y r d d' };
+
+    ghost writes = { λ d s b r d'. WritesBelow D.Device.means D.Device.writes s b r d d' };
+
+    ghost flushes = { λ d r d'. FlushesBelow D.Device.flushes r d d' };
 
     fn count(&self) -> u32 {
         self.below.count()
@@ -58,24 +62,14 @@ impl<D: Device> Device for Switch<D> {
     }
 
     // Each call matches on its fate: a cut write differs, and a closure for the call below would need more clauses than it spares.
-    fn read(&mut self, sector: u32, into: &mut [u8; PAYLOAD]) -> Result<(), Fault>
-        ensures rules { ReadCall sector into.old into.new result (switched (is_on self.old.fuse) (D.means self.old.below)) (switched (is_on self.new.fuse) (D.means self.new.below)) }
-        ensures counted { Counts self.old.fuse self.new.fuse }
-        ensures last { self.new.last ≡ self.old.last }
-        ensures below { ReadsBelow self.old.fuse sector into.old into.new result (self.new.below ≡ self.old.below) (D.means self.old.below) (D.means self.new.below) }
-    {
+    fn read(&mut self, sector: u32, into: &mut [u8; PAYLOAD]) -> Result<(), Fault> {
         match self.fuse.count_call() {
             Fate::Refused | Fate::Cut => Err(Fault::Off), // the caller's bytes stay
             Fate::Passed => self.below.read(sector, into),
         }
     }
 
-    fn write(&mut self, sector: u32, bytes: &[u8; PAYLOAD]) -> Result<(), Fault>
-        ensures rules { WriteCall sector bytes.now result (switched (is_on self.old.fuse) (D.means self.old.below)) (switched (is_on self.new.fuse) (D.means self.new.below)) }
-        ensures counted { Counts self.old.fuse self.new.fuse }
-        ensures last { self.new.last ≡ self.old.last }
-        ensures below { WritesBelow self.old.fuse self.old.last sector bytes.now result (self.new.below ≡ self.old.below) (D.means self.old.below) (D.means self.new.below) }
-    {
+    fn write(&mut self, sector: u32, bytes: &[u8; PAYLOAD]) -> Result<(), Fault> {
         match self.fuse.count_call() {
             Fate::Refused => Err(Fault::Off),
             Fate::Cut => {
@@ -88,12 +82,7 @@ impl<D: Device> Device for Switch<D> {
         }
     }
 
-    fn flush(&mut self) -> Result<(), Fault>
-        ensures rules { FlushCall result (switched (is_on self.old.fuse) (D.means self.old.below)) (switched (is_on self.new.fuse) (D.means self.new.below)) }
-        ensures counted { Counts self.old.fuse self.new.fuse }
-        ensures last { self.new.last ≡ self.old.last }
-        ensures below { FlushesBelow self.old.fuse result (self.new.below ≡ self.old.below) (D.means self.old.below) (D.means self.new.below) }
-    {
+    fn flush(&mut self) -> Result<(), Fault> {
         match self.fuse.count_call() {
             Fate::Refused | Fate::Cut => Err(Fault::Off),
             Fate::Passed => self.below.flush(),

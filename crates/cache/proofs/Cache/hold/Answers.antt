@@ -2,7 +2,7 @@
 -- Assumes nothing.
 use Rattle.std.proofs.Common.{inl, arith, rules}
 use Rattle.std.proofs.lemmas.List.{length-set}
-use Rattle.cache.proofs.Holding.{assigned, replaced, replaced_rules, joined, joined_rules, takes_distinct}
+use Rattle.cache.proofs.Holding.{not_absent, assigned, replaced, replaced_rules, joined, joined_rules, takes_distinct}
 use Rattle.cache.proofs.Cache.hold.Goals as goal
 
 pub invariant_of-self : goal.invariant_of-self
@@ -20,6 +20,9 @@ returns-in-Some-clause-rules g c on here =
 
 pub returns-in-Some-clause-held : goal.returns-in-Some-clause-held
 returns-in-Some-clause-held g c = rw (c.deref_mut.ensures.value, assigned) (inl (replaced c.args.write _ _ c.in-Some.ensures))
+
+pub returns-in-Some-clause-evicts : goal.returns-in-Some-clause-evicts
+returns-in-Some-clause-evicts g c _ none _ = absurd (not_absent _ _ _ c.args.write c.in-Some.ensures none)
 
 pub invariant_of-self-2 : goal.invariant_of-self-2
 invariant_of-self-2 g c =

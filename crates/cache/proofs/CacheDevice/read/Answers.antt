@@ -7,6 +7,7 @@ use Rattle.device.specs.Sector.{IsPayload}
 use Rattle.device.specs.Waiting.{NoneFor, Holds}
 use Rattle.device.proofs.Lists.{absent_waiting, absent_from}
 use Rattle.device.proofs.Waits.{place_holds}
+use Rattle.cache.proofs.Holding.{not_absent}
 use Rattle.cache.proofs.CacheDevice.read.Goals as goal
 
 pub returns-in-Some-clause-rules : goal.returns-in-Some-clause-rules
@@ -16,6 +17,14 @@ returns-in-Some-clause-rules g c =
     let h : Holds c.args.sector w.bytes c.args.self.now.held.items = let y = c.in-Some.ensures in
     place_holds c.args.sector c.args.self.now.held.items c.in-Some.place (c.in-Some.place + 1) w refl (y.0, λ d. get_or_default c.args.self.now.held.items c.in-Some.place d _ y.0) (y.1 _) (absent_from c.args.sector c.args.self.now.held.items (c.in-Some.place + 1) y.2) is in
     search rules
+
+pub returns-in-Some-clause-made : goal.returns-in-Some-clause-made
+returns-in-Some-clause-made g c = record {
+  kept = refl;
+  turned = λ _. refl;
+  held = λ _. refl;
+  passed = λ _ _ none. absurd (not_absent _ _ _ (record { sector = 0; bytes = [] }) c.in-Some.ensures none);
+}
 
 pub returns-in-None-clause-rules : goal.returns-in-None-clause-rules
 returns-in-None-clause-rules g c =

@@ -3,7 +3,7 @@
 use Rattle.std.proofs.Common.{ℕ, List, ◌∷◌, sym, ap, ◌∙◌, subst, arith}
 use Rattle.device.specs.declared.pending.PendingWrite.{PendingWrite}
 use Rattle.device.specs.declared.queue.Queue.{Queue}
-use Rattle.device.specs.Queues.{waiting, places}
+use Rattle.device.specs.Queues.{waiting}
 use Rattle.bench.specs.Waits.{MakesDurable}
 use Rattle.bench.proofs.Storing.{oldest_keeps, full_stored, full_gone}
 use Rattle.bench.proofs.bench.Bench.make_room.Goals as goal
@@ -21,7 +21,7 @@ returns-in-Some c =
       pending = full_gone w _ _ _ _ e d (omega (arith, c.len.ensures));
       same = record {
         rows = c.put.ensures.same ∙ ap (λ x. x.bytes.ghost_name) taken.rows;
-        slots = ap (λ (z : Queue PendingWrite). z.slots.ghost_name) q ∙ taken.slots;
-        room = ap places q ∙ taken.places;
+        slots = ap (λ (z : Queue PendingWrite). z.slots.ghost_name) q ∙ taken.same.slots;
       };
+      slots = ap (λ (z : Queue PendingWrite). z.slots.now) q ∙ taken.slots;
     }

@@ -3,7 +3,7 @@
 use Rattle.std.proofs.Common.{ℕ, List, ◌∷◌, sym, ap, ◌∙◌, subst}
 use Rattle.device.specs.declared.pending.PendingWrite.{PendingWrite}
 use Rattle.device.specs.declared.queue.Queue.{Queue}
-use Rattle.device.specs.Queues.{waiting, places}
+use Rattle.device.specs.Queues.{waiting}
 use Rattle.device.proofs.Waits.{keeps_then}
 use Rattle.bench.specs.Waits.{MakesDurable}
 use Rattle.bench.proofs.Storing.{oldest_keeps, all_stored, all_flushed}
@@ -19,9 +19,9 @@ loop-oldest-preserved c =
     let d = subst (λ (z : List ℕ). MakesDurable w z c.put.new.self.rows.bytes.now) (ap (λ x. x.bytes.now) taken.rows) c.put.ensures.memory in (
       all_stored w _ _ _ _ e d ∙ inv.0,
       keeps_then _ _ _ inv.1 (oldest_keeps w _ _ _ _ e d),
-      ap places q ∙ taken.places ∙ inv.2,
+      ap (λ (z : Queue PendingWrite). z.slots.now) q ∙ taken.slots ∙ inv.2,
       c.put.ensures.same ∙ ap (λ x. x.bytes.ghost_name) taken.rows ∙ inv.3,
-      ap (λ (z : Queue PendingWrite). z.slots.ghost_name) q ∙ taken.slots ∙ inv.4,
+      ap (λ (z : Queue PendingWrite). z.slots.ghost_name) q ∙ taken.same.slots ∙ inv.4,
     )
 
 pub returns : goal.returns
@@ -30,9 +30,12 @@ returns c =
     let inv = c.loop-oldest.invariant in
     let all = all_flushed _ _ _ _ _ _ (ap (λ x. x.bytes.now) taken.rows) taken.taken taken.empty inv.0 inv.1 in
     record {
-      memory = all.0;
+      done = record {
+        rows = all.0;
+        pending = taken.empty;
+        slots = taken.slots ∙ inv.2;
+        same = record { rows = ap (λ x. x.bytes.ghost_name) taken.rows ∙ inv.3; slots = taken.same.slots ∙ inv.4 };
+      };
       kept = all.1;
       rules = all.2;
-      pending = taken.empty;
-      same = record { rows = ap (λ x. x.bytes.ghost_name) taken.rows ∙ inv.3; slots = taken.slots ∙ inv.4; room = taken.places ∙ inv.2 };
     }

@@ -1,9 +1,9 @@
 -- One sector after another is settled, and then nothing waits.
 -- Assumes nothing.
-use Rattle.std.proofs.Common.{ℕ, length, get_or, ap, ◌∙◌, subst, arith}
+use Rattle.std.proofs.Common.{ℕ, get_or, ap, ◌∙◌, subst, arith}
 use Rattle.device.specs.declared.pending.PendingWrite.{PendingWrite}
 use Rattle.device.specs.declared.queue.Queue.{Queue}
-use Rattle.device.specs.Queues.{waiting, places}
+use Rattle.device.specs.Queues.{waiting}
 use Rattle.device.proofs.Turned.{len_waiting}
 use Rattle.bench.specs.Benches.{memory, queued}
 use Rattle.bench.specs.Settling.{SettlesAt}
@@ -41,6 +41,6 @@ returns c =
       same = record {
         rows = inv.same;
         slots = c.clear.ensures.same ∙ ap (λ (q : Queue PendingWrite). q.slots.ghost_name) inv.pending;
-        room = ap length c.clear.ensures.untouched ∙ ap places inv.pending;
       };
+      slots = c.clear.ensures.untouched ∙ ap (λ (q : Queue PendingWrite). q.slots.now) inv.pending;
     }

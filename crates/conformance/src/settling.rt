@@ -1,7 +1,7 @@
 //! Settling a bench in every way, and what a bench is refused for.
-use crate::cards::Row::{self, Readable, Torn};
+use crate::cards::Row::{self, Marked, Readable, Torn};
 use bench::{Bench, ROW, WAITING};
-use device::{BLANK, Device, MemoryError, PAYLOAD, PendingWrite};
+use device::{BLANK, Device, Fault, MemoryError, PAYLOAD, PendingWrite};
 use std::test::Fail;
 
 // Three sectors before any write.
@@ -53,15 +53,16 @@ const NINE: [(u32, u8); 9] = [
     (0, 9),
 ];
 
-// Makes the writes on a bench of the three sectors, settles it, flushes it if told to, and tells whether its memory is then these rows.
+// Makes the writes on a bench of these three sectors, settles it, flushes it if told to, and tells whether its memory is then these rows.
 // A closure in place of the flag would say nothing at three calls of four.
 fn leaves(
+    old: [Row; 3],
     writes: &[(u32, u8)],
     numbers: &[u8],
     flushed: bool,
     rows: [Row; 3],
 ) -> Result<bool, Fail> {
-    let mut memory = OLD.map(Row::bytes);
+    let mut memory = old.map(Row::bytes);
     let mut slots = [BLANK; WAITING];
     let mut bench = Bench::new(memory.as_flattened_mut(), &mut slots)?;
     for (sector, fill) in writes {
@@ -80,13 +81,45 @@ fn every_choice_is_found(rt: HostRuntime) -> Result<(), Fail> {
     for (first, in_first) in FIRST {
         for (second, in_second) in SECOND {
             let rows = [in_first, in_second, OLD[2]];
-            let numbers = [first, second, 9];
-            assert!(rt; leaves(&WRITES, &numbers, false, rows)?);
+            let numbers = [first, second, first]; // no number tears the last sector, or finds a write there
+            assert!(rt; leaves(OLD, &WRITES, &numbers, false, rows)?);
             assert!(rt;
-                leaves(&WRITES, &numbers, true, rows)?,
+                leaves(OLD, &WRITES, &numbers, true, rows)?,
                 "nothing waits any more"
             );
         }
+    }
+    Ok(())
+}
+
+// The first and the last sector torn, with marks that settling does not make.
+const MARKED: [Row; 3] = [Marked(10, 7), Readable(20), Marked(30, 255)];
+
+// What numbers leave of these after the writes: without one, the mark too is the one that was there.
+const OF_MARKED: [([u8; 3], [Row; 3]); 4] = [
+    ([0, 0, 0], MARKED),
+    ([1, 0, 9], [Readable(11), Readable(20), Marked(30, 255)]),
+    ([9, 9, 1], [Torn(10), Torn(20), Marked(30, 255)]),
+    ([3, 1, 5], [Marked(10, 7), Readable(21), Marked(30, 255)]),
+];
+
+#[test]
+fn torn_rows_stay_as_they_are(rt: HostRuntime) -> Result<(), Fail> {
+    for (numbers, rows) in OF_MARKED {
+        assert!(rt; leaves(MARKED, &WRITES, &numbers, false, rows)?);
+    }
+    Ok(())
+}
+
+#[test]
+fn any_mark_but_0_is_torn(rt: HostRuntime) -> Result<(), Fail> {
+    for mark in 1..=255 {
+        let mut memory = Marked(10, mark).bytes();
+        let mut slots = [BLANK; WAITING];
+        let mut bench = Bench::new(&mut memory, &mut slots)?;
+        let mut bytes = [3; PAYLOAD];
+        assert_eq!(rt; bench.read(0, &mut bytes), Err(Fault::Torn));
+        assert_eq!(rt; bytes, [3; PAYLOAD]);
     }
     Ok(())
 }
@@ -106,7 +139,7 @@ const COUNTS: [(&[u8], [Row; 3]); 5] = [
 #[test]
 fn numbers_may_be_missing(rt: HostRuntime) -> Result<(), Fail> {
     for (numbers, rows) in COUNTS {
-        assert!(rt; leaves(&WRITES, numbers, false, rows)?);
+        assert!(rt; leaves(OLD, &WRITES, numbers, false, rows)?);
     }
     Ok(())
 }
@@ -131,7 +164,7 @@ fn a_ninth_write_makes_the_first_durable(rt: HostRuntime) -> Result<(), Fail> {
     for (writes, cases) in [(&NINE[..8], OF_EIGHT), (&NINE[..], OF_NINE)] {
         for (number, row) in cases {
             let rows = [row, OLD[1], OLD[2]];
-            assert!(rt; leaves(writes, &[number], false, rows)?);
+            assert!(rt; leaves(OLD, writes, &[number], false, rows)?);
         }
     }
     Ok(())

@@ -1,18 +1,13 @@
 //! Caches and switches over a bench: what is found on the bench when the power is cut above it.
-use Call::{Flush, Read, Write};
+use crate::calls::Call::{self, Flush, Read, Write};
+use crate::calls::{Content, are_found, gives, is_dead};
 use bench::{Bench, ROW, WAITING};
 use cache::Cache;
-use device::{BLANK, Device, Fault, PAYLOAD};
+use device::{BLANK, Device, Fault};
 use std::test::Fail;
 use switch::{LastWrite, Switch};
 
-const SECTORS: usize = 9;
-
-// What a read of a sector gives: sixty times this byte, or why there are none.
-type Content = Result<u8, Fault>;
-
-// What the caller's bytes are before each read.
-const LEFT: u8 = 0xee;
+pub(crate) const SECTORS: usize = 9;
 
 // Nine sectors before any write.
 const OLD: [Content; SECTORS] = [Ok(0); SECTORS];
@@ -43,27 +38,8 @@ const AGAIN: [Content; SECTORS] = [
     Ok(9),
 ];
 
-// A call, as a value: the script is cut within each, and what a cut leaves depends on which it was.
-#[derive(Clone, Copy)]
-enum Call {
-    Read(u32),
-    // to this sector, sixty times this byte
-    Write(u32, u8),
-    Flush,
-}
-
-impl Call {
-    fn on<D: Device>(self, device: &mut D) -> Result<(), Fault> {
-        match self {
-            Read(sector) => device.read(sector, &mut [0; PAYLOAD]),
-            Write(sector, fill) => device.write(sector, &[fill; PAYLOAD]),
-            Flush => device.flush(),
-        }
-    }
-}
-
 // Eight sectors, the first of them once more, a ninth, a flush, and then two of the sectors again.
-const SCRIPT: [Call; 15] = [
+pub(crate) const SCRIPT: [Call; 15] = [
     Write(0, 1),
     Write(1, 2),
     Write(2, 3),
@@ -82,31 +58,7 @@ const SCRIPT: [Call; 15] = [
 ];
 
 // What the sectors are settled by: what is durable, the first and the second write that waits, and torn.
-const NUMBERS: [u8; 4] = [0, 1, 2, 9];
-
-// Whether a read of the sector gives this. A read that is refused leaves the caller's bytes.
-fn gives<D: Device>(device: &mut D, sector: u32, content: Content) -> bool {
-    let mut bytes = [LEFT; PAYLOAD];
-    device.read(sector, &mut bytes).err() == content.err()
-        && bytes == [content.unwrap_or(LEFT); PAYLOAD]
-}
-
-// Whether the sectors are found so.
-fn are_found<D: Device>(device: &mut D, contents: &[Content; SECTORS]) -> bool {
-    (0..)
-        .zip(contents)
-        .all(|(sector, content)| gives(device, sector, *content))
-}
-
-// Whether every call is refused since the device is off, also for a sector that is not there.
-fn is_dead<D: Device>(device: &mut D) -> bool {
-    gives(device, 0, Err(Fault::Off))
-        && gives(device, 9, Err(Fault::Off))
-        && Write(0, 1).on(device) == Err(Fault::Off)
-        && Write(9, 1).on(device) == Err(Fault::Off)
-        && Flush.on(device) == Err(Fault::Off)
-        && !device.is_on()
-}
+pub(crate) const NUMBERS: [u8; 4] = [0, 1, 2, 9];
 
 // What the number leaves on a bench below a cache that so many calls of the script reached. The tenth, a ninth sector, sends sector 0
 // on to the bench, where it waits; the next makes all last; and what is then written stays in the cache until the last.

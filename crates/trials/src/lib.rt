@@ -4,6 +4,8 @@
 #[cfg(test)]
 mod numbers;
 #[cfg(test)]
+mod queues;
+#[cfg(test)]
 mod rows;
 #[cfg(test)]
 mod surveys;

@@ -1,9 +1,9 @@
 -- Writes that wait are made durable, one or all.
 -- Assumes nothing.
-use Rattle.std.proofs.Common.{◌≡◌, ℕ, ◌<◌, ◌≤◌, ltb, List, [], ◌∷◌, ◌++◌, length, take, drop, Ok, Err, Some, None, Option, MatchOption, append-nil, sym, refl, ap, ◌∙◌, subst, inl, inr, arith}
+use Rattle.std.proofs.Common.{◌≡◌, ℕ, ◌<◌, ◌≤◌, ltb, List, [], ◌∷◌, ◌++◌, length, take, drop, Ok, Err, Some, None, Option, MatchOption, Result, MatchResult, append-nil, sym, refl, ap, ◌∙◌, subst, inl, inr, arith}
 use Rattle.device.specs.declared.queue.Queue.{Queue}
-use Rattle.device.specs.Queues.{waiting}
-use Rattle.device.proofs.Turned.{len_waiting}
+use Rattle.device.specs.Queues.{waiting, Joins, IsFull}
+use Rattle.std.proofs.lemmas.List.{length-append, length-drop}
 use Rattle.std.proofs.lemmas.Bool.{cases_lt, lt-ltb, le-ltb, cond-true, cond-false}
 use Rattle.device.specs.declared.pending.PendingWrite.{PendingWrite}
 use Rattle.device.specs.Faults.{Answer}
@@ -91,9 +91,22 @@ pub lets_join : (w : PendingWrite) (ws ws' : List PendingWrite) (m : List ℕ) �
 lets_join w ws ws' m is e h = subst (λ (z : List PendingWrite). WriteCall w.sector w.bytes (Ok tt) (with_waiting ws (rows_mean m)) (with_waiting z (rows_mean m))) (sym e) (joins ws (rows_mean m) w h is refl)
 
 -- one fewer waits once the oldest was taken, and none more if none was
-pub taken_few : (q q' : Queue PendingWrite) (r : Option PendingWrite) → MatchOption r ((waiting q ≡ []) × (q' ≡ q)) (λ x. waiting q ≡ x ∷ waiting q') → q.len ≤ 8 → q'.len ≤ 8
-taken_few q q' None e h = subst (λ (z : Queue PendingWrite). z.len ≤ 8) (sym e.1) h
-taken_few q q' (Some x) e h = let k = ap length e in let l = len_waiting q in let l' = len_waiting q' in omega arith
+pub taken_few : (q q' : Queue PendingWrite) (r : Option PendingWrite) → MatchOption r ((waiting q ≡ []) × (q' ≡ q)) (λ x. waiting q ≡ x ∷ waiting q')
+    → length (waiting q) ≤ 8 → length (waiting q') ≤ 8
+taken_few q q' None e h = subst (λ (z : Queue PendingWrite). length (waiting z) ≤ 8) (sym e.1) h
+taken_few q q' (Some x) e h = let k = ap length e in omega arith
+
+-- with room made, one more may wait
+room_few : (ws : List PendingWrite) → length ws ≤ 8 → length (room_in ws) < 8
+room_few ws h = elim (cases_lt (length ws) 8) [
+  | inl few ↦ let e = ap length (cond-true (ltb (length ws) 8) ws (drop 1 ws) (lt-ltb (length ws) 8 few)) in omega arith
+  | inr full ↦ let e = ap length (cond-false (ltb (length ws) 8) ws (drop 1 ws) (le-ltb (length ws) 8 full)) in let l = length-drop 1 ws in omega arith
+]
+
+pub joined_few : (ws : List PendingWrite) (w : PendingWrite) (q q' : Queue PendingWrite) (r : Result (Unit {0}) PendingWrite) → waiting q ≡ room_in ws → length ws ≤ 8
+    → MatchResult r (λ _. Joins w q q') (λ y. (y ≡ w) × IsFull q × (q' ≡ q)) → length (waiting q') ≤ 8
+joined_few ws w q q' (Ok _) e h p = let k = ap length e in let f = room_few ws h in let l = ap length p.0 in let m = length-append (waiting q) (w ∷ []) in omega arith
+joined_few ws w q q' (Err y) e h p = let k = ap length e in let f = room_few ws h in subst (λ (z : Queue PendingWrite). length (waiting z) ≤ 8) (sym p.2) (omega arith)
 
 -- The youngest write to a sector among xs and then ys: that among ys, or else that among xs.
 pub first_piece : (s : ℕ) (ws xs ys : List PendingWrite) → ws ≡ xs ++ ys → (r : Option PendingWrite) → Absent s ys → MatchOption r (Absent s xs) (λ w. IsPayload w.bytes → Holds s w.bytes xs)

@@ -6,24 +6,31 @@ use Rattle.device.specs.declared.memory.MemoryError.TheVariants.{NotWholeRows, F
 use Rattle.device.specs.declared.pending.PendingWrite.{PendingWrite}
 use Rattle.device.specs.Faults.{Answer}
 use Rattle.device.specs.Rules.{Meaning}
-use Rattle.device.specs.Queues.{waiting, PutsOne}
+use Rattle.device.specs.Memory.{bytes_of, bytes_at}
+use Rattle.device.specs.Queues.{waiting, in_places, places_at, PutsOne}
 use Rattle.device.specs.Waiting.{room_in, with_waiting}
 use Rattle.bench.specs.declared.bench.Bench.{Bench}
 use Rattle.bench.specs.declared.bench.Refused.{Refused}
 use Rattle.bench.specs.Rows.{rows_mean}
 use Rattle.bench.specs.Waits.{stored_all, room_made}
 
--- the bytes of its rows
+-- the bytes of its rows, and which piece of the caller's memory they are
 abbrev pub memory : Bench → List ℕ
-memory d = d.rows.bytes.now
+memory d = bytes_of d.rows
+
+abbrev pub memory_at : Bench → ℕ
+memory_at d = bytes_at d.rows
 
 -- the writes that wait, oldest first
 abbrev pub queued : Bench → List PendingWrite
 queued d = waiting d.pending
 
--- what its places hold, those where a write waits and the others
+-- what its places hold, those where a write waits and the others, and which piece of the caller's memory they are
 abbrev pub slots : Bench → List PendingWrite
-slots d = d.pending.slots.now
+slots d = in_places d.pending
+
+abbrev pub slots_at : Bench → ℕ
+slots_at d = places_at d.pending
 
 -- what a bench means: its rows, with the writes that wait in front of them
 abbrev pub means : Bench → Meaning
@@ -31,8 +38,8 @@ means d = with_waiting (queued d) (rows_mean (memory d))
 
 -- it stands on the same pieces of the caller's memory
 pub record SameMemory (d d' : Bench) : Type 0 where
-  pub rows : d'.rows.bytes.ghost_name ≡ d.rows.bytes.ghost_name
-  pub slots : d'.pending.slots.ghost_name ≡ d.pending.slots.ghost_name
+  pub rows : memory_at d' ≡ memory_at d
+  pub slots : slots_at d' ≡ slots_at d
 
 -- The write w joins those that wait, as the youngest: one of the places takes it, and the others stay as they are. Before a ninth, the
 -- oldest becomes durable.

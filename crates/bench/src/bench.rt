@@ -3,6 +3,7 @@ ghost use Rattle.std.specs.Prelude.{◌≡◌, ◌%◌, ◌<◌, ◌≤◌, [], 
 ghost use Rattle.device.specs.Sector.{IsPayload};
 ghost use Rattle.device.specs.Rules.{WriteCall, FlushCall};
 ghost use Rattle.device.specs.Memory.{row_count};
+ghost use Rattle.device.specs.Queues.{waiting, places};
 ghost use Rattle.device.specs.Waiting.{Absent, NoneFor, Holds, Keeps, room_in, laws_waiting};
 ghost use Rattle.bench.specs.Rows.{rows_mean, rows_laws};
 ghost use Rattle.bench.specs.Waits.{MakesDurable, room_made};
@@ -29,19 +30,25 @@ pub struct Refused<'a> {
 pub struct Bench<'a> {
     pub(crate) rows: Rows<'a, ROW>,
     pub(crate) pending: Queue<'a, PendingWrite>,
-    pub ghost few: { pending.len ≤ 8 },
-    pub ghost room: { 8 ≤ length pending.slots.now },
+    pub ghost few: { length (waiting pending) ≤ 8 },
+    pub ghost room: { 8 ≤ places pending },
 }
 
 impl<'a> Bench<'a> {
-    ghost use Rattle.bench.specs.Benches.{Made, Refuses};
+    ghost use Rattle.bench.specs.Benches.{Made, Refuses, memory, memory_at, slots, slots_at};
 
     /// A device over this memory, as it stands, with nothing waiting. Refused, and all given back, if the memory is not whole
     /// rows, or if there are places for fewer than eight writes.
     pub fn new(rows: &'a mut [u8], slots: &'a mut [PendingWrite]) -> Result<Bench<'a>, Refused<'a>>
-        ensures made { MatchResult result (λ d. (length rows.old % 61 ≡ 0) × (8 ≤ length slots.old) × Made rows.old slots.old d) (λ e. Refuses rows.old slots.old e) }
-        ensures rows { MatchResult result (λ d. d.rows.bytes.ghost_name ≡ rows.entry.ghost_name) (λ e. e.rows.ghost_name ≡ rows.entry.ghost_name) }
-        ensures slots { MatchResult result (λ d. d.pending.slots.ghost_name ≡ slots.entry.ghost_name) (λ e. e.slots.ghost_name ≡ slots.entry.ghost_name) }
+        ensures made { MatchResult result
+            (λ d. (length rows.old % 61 ≡ 0) × (8 ≤ length slots.old) × Made rows.old slots.old d)
+            (λ e. Refuses rows.old slots.old e) }
+        ensures rows { MatchResult result
+            (λ d. memory_at d ≡ rows.entry.ghost_name)
+            (λ e. e.rows.ghost_name ≡ rows.entry.ghost_name) }
+        ensures slots { MatchResult result
+            (λ d. slots_at d ≡ slots.entry.ghost_name)
+            (λ e. e.slots.ghost_name ≡ slots.entry.ghost_name) }
     {
         let rows = match Rows::new(rows) {
             Ok(rows) => rows,
@@ -69,8 +76,8 @@ impl<'a> Bench<'a> {
 
     /// The memory and the places, as they stand now. What still waits is lost: flush or settle first.
     pub fn into_parts(self) -> (&'a mut [u8], &'a mut [PendingWrite])
-        ensures rows { (result.0.now ≡ self.entry.rows.bytes.now) × (result.0.ghost_name ≡ self.entry.rows.bytes.ghost_name) }
-        ensures slots { (result.1.now ≡ self.entry.pending.slots.now) × (result.1.ghost_name ≡ self.entry.pending.slots.ghost_name) }
+        ensures rows { (result.0.now ≡ memory self.entry) × (result.0.ghost_name ≡ memory_at self.entry) }
+        ensures slots { (result.1.now ≡ slots self.entry) × (result.1.ghost_name ≡ slots_at self.entry) }
     {
         let Bench { rows, pending } = self;
         (rows.into_bytes(), pending.into_slots())
@@ -79,13 +86,13 @@ impl<'a> Bench<'a> {
 
 // What a call leaves where it was, as `same` and `pending` say, is about before and after: no type can tell it.
 impl Bench<'_> {
-    ghost use Rattle.bench.specs.Benches.{SameMemory, LetsWait, AfterFlush, means, memory, queued, slots};
+    ghost use Rattle.bench.specs.Benches.{SameMemory, LetsWait, AfterFlush, means, memory, memory_at, queued, slots};
 
     // Makes a write durable. A sector that is not there is passed over.
     fn put(&mut self, write: PendingWrite)
         ensures memory { MakesDurable write (memory self.old) (memory self.new) }
         ensures pending { self.new.pending ≡ self.old.pending }
-        ensures same { self.new.rows.bytes.ghost_name ≡ self.old.rows.bytes.ghost_name }
+        ensures same { memory_at self.new ≡ memory_at self.old }
     {
         let _ = self.rows.put(write.sector, &marked(&write.bytes, READABLE));
     }
@@ -130,7 +137,8 @@ impl Bench<'_> {
 
     // Lets a write wait, behind all others.
     fn let_wait(&mut self, write: PendingWrite)
-        ensures rules { IsPayload write.bytes → write.sector < row_count 61 (memory self.old) → WriteCall write.sector write.bytes (Ok tt) (means self.old) (means self.new) }
+        ensures rules { IsPayload write.bytes → write.sector < row_count 61 (memory self.old)
+            → WriteCall write.sector write.bytes (Ok tt) (means self.old) (means self.new) }
         ensures waits { LetsWait write self.old self.new }
     {
         self.make_room();
@@ -139,7 +147,9 @@ impl Bench<'_> {
 
     // The youngest write that waits for the sector.
     fn youngest(&self, sector: u32) -> Option<PendingWrite>
-        ensures found { MatchOption result (NoneFor sector (queued self.now)) (λ w. IsPayload w.bytes → Holds sector w.bytes (queued self.now)) }
+        ensures found { MatchOption result
+            (NoneFor sector (queued self.now))
+            (λ w. IsPayload w.bytes → Holds sector w.bytes (queued self.now)) }
         ensures to { IfSome result (λ w. w.sector ≡ sector) }
     {
         let (older, younger) = self.pending.as_slices();
@@ -153,7 +163,9 @@ impl Bench<'_> {
 
 // The youngest of these writes, oldest first, that is to the sector.
 fn last_to(writes: &[PendingWrite], sector: u32) -> Option<PendingWrite>
-    ensures found { MatchOption result (Absent sector writes.now) (λ w. IsPayload w.bytes → Holds sector w.bytes writes.now) }
+    ensures found { MatchOption result
+        (Absent sector writes.now)
+        (λ w. IsPayload w.bytes → Holds sector w.bytes writes.now) }
     ensures to { IfSome result (λ w. w.sector ≡ sector) }
 {
     let at = youngest_to(writes, sector)?;

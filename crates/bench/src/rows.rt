@@ -18,7 +18,9 @@ pub(crate) const TORN: u8 = 1;
 // The row image has the like; the test in it is all that either says, so one function with the test passed in would be no plainer.
 pub(crate) fn payload_of(row: &[u8]) -> Result<&[u8], Fault>
     requires { length row.now ≡ 61 }
-    ensures { MatchResult result (λ bytes. (row_holds row.now ≡ payload bytes.now) × (length bytes.now ≡ 60)) (λ fault. (row_holds row.now ≡ torn) × (fault ≡ Fault.Torn)) }
+    ensures { MatchResult result
+        (λ bytes. (row_holds row.now ≡ payload bytes.now) × (length bytes.now ≡ 60))
+        (λ fault. (row_holds row.now ≡ torn) × (fault ≡ Fault.Torn)) }
 {
     let (bytes, mark) = row.split_at(PAYLOAD);
     if mark[0] == READABLE {

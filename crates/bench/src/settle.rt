@@ -5,7 +5,7 @@ ghost use Rattle.device.specs.Rules.{Settled};
 ghost use Rattle.device.specs.Memory.{row_count, row_in, with_row};
 ghost use Rattle.device.specs.Waiting.{waiting_at};
 ghost use Rattle.bench.specs.Rows.{durable, torn_row};
-ghost use Rattle.bench.specs.Benches.{SameMemory, means, memory, queued, slots};
+ghost use Rattle.bench.specs.Benches.{SameMemory, means, memory, memory_at, queued, slots};
 ghost use Rattle.bench.specs.Settling.{Settles, SettlesAt, Reaches, chosen};
 
 use crate::bench::Bench;
@@ -26,7 +26,10 @@ impl Bench<'_> {
     /// content, k takes the k-th oldest write that waits for the sector, 9 makes it torn if one waits; others count as 0.
     pub fn settle(&mut self, numbers: &[u8])
         ensures settles { Settles numbers.now (queued self.old) (memory self.old) (memory self.new) }
-        ensures current { (s : ℕ) → (means self.new).current s ≡ chosen (slice_index numbers.now s) (waiting_at (row_count 61 (memory self.old)) (queued self.old) s) (durable (memory self.old) s) }
+        ensures current { (s : ℕ) → (means self.new).current s
+            ≡ chosen (slice_index numbers.now s)
+            (waiting_at (row_count 61 (memory self.old)) (queued self.old) s)
+            (durable (memory self.old) s) }
         ensures only { Settled (means self.new).current (means self.new).possible }
         ensures found { Found (means self.old).possible (means self.new).current }
         ensures reaches { Reaches (queued self.old) (memory self.old) }
@@ -46,7 +49,7 @@ impl Bench<'_> {
         requires { sector < row_count 61 (memory self.old) }
         ensures settled { SettlesAt number sector (queued self.old) (memory self.old) (memory self.new) }
         ensures pending { self.new.pending ≡ self.old.pending }
-        ensures same { self.new.rows.bytes.ghost_name ≡ self.old.rows.bytes.ghost_name }
+        ensures same { memory_at self.new ≡ memory_at self.old }
     {
         match number {
             KEEP => {}
@@ -75,9 +78,10 @@ impl Bench<'_> {
     // Tears a sector, and leaves every byte but the mark.
     fn tear(&mut self, sector: u32)
         requires { sector < row_count 61 (memory self.old) }
-        ensures memory { memory self.new ≡ with_row 61 (memory self.old) sector (torn_row (row_in 61 (memory self.old) sector)) }
+        ensures memory { memory self.new
+            ≡ with_row 61 (memory self.old) sector (torn_row (row_in 61 (memory self.old) sector)) }
         ensures pending { self.new.pending ≡ self.old.pending }
-        ensures same { self.new.rows.bytes.ghost_name ≡ self.old.rows.bytes.ghost_name }
+        ensures same { memory_at self.new ≡ memory_at self.old }
     {
         let (bytes, _) = self.rows.get(sector).unwrap().split_at(PAYLOAD);
         let torn = marked(bytes, TORN);

@@ -5,7 +5,7 @@ ghost use Rattle.std.specs.Prelude.{◌≡◌, ◌<◌, ◌≤◌, true, ◌⊎�
 ghost use Rattle.device.specs.Rules.{WriteCall};
 ghost use Rattle.device.specs.Waiting.{Absent, YoungestAt, with_waiting, laws_waiting};
 ghost use Rattle.cache.specs.Held.{Distinct, Distinct-prop, Passed, MakesRoom, PassesAll, TurnsAway, HeldAfter};
-ghost use Rattle.cache.specs.Below.{PassedOn, AllPassedOn, ReadsBelow, WritesBelow, FlushesBelow};
+ghost use Rattle.cache.specs.Below.{PassedOn, AllPassedOn};
 
 use arrayvec::ArrayVec;
 use device::{Device, Fault, PAYLOAD, PendingWrite, youngest_to};
@@ -24,10 +24,12 @@ pub struct Cache<D> {
 }
 
 impl<D: Device> Cache<D> {
+    ghost use Rattle.cache.specs.Caches.{held_writes, device_below, cached};
+
     /// A cache that holds nothing yet.
     pub fn new(below: D) -> Cache<D>
-        ensures below { result.below ≡ below }
-        ensures empty { result.held.items ≡ [] }
+        ensures below { device_below result ≡ below }
+        ensures empty { held_writes result ≡ [] }
     {
         Cache {
             below,
@@ -37,7 +39,7 @@ impl<D: Device> Cache<D> {
 
     /// The device below. What is still held is lost: flush first.
     pub fn into_below(self) -> D
-        ensures { result ≡ self.below }
+        ensures { result ≡ device_below self }
     {
         let Cache { below, held: _ } = self;
         below
@@ -45,7 +47,9 @@ impl<D: Device> Cache<D> {
 
     // Turns a call away if the device below is off, or else does not have the sector.
     fn admit(&self, sector: u32) -> Result<(), Fault>
-        ensures { MatchResult result (λ _. ((D.means self.now.below).on ≡ true) × (sector < (D.means self.now.below).count)) (λ fault. TurnsAway sector (D.means self.now.below) fault) }
+        ensures { MatchResult result
+            (λ _. ((D.means (device_below self.now)).on ≡ true) × (sector < (D.means (device_below self.now)).count))
+            (λ fault. TurnsAway sector (D.means (device_below self.now)) fault) }
     {
         if !self.below.is_on() {
             return Err(Fault::Off);
@@ -59,16 +63,21 @@ impl<D: Device> Cache<D> {
     // The place of the youngest write to the sector.
     #[tactic(auto, using(device::proofs::Lists::none_absent))]
     fn place_of(&self, sector: u32) -> Option<usize>
-        ensures { MatchOption result (Absent sector self.now.held.items) (YoungestAt sector self.now.held.items) }
+        ensures { MatchOption result
+            (Absent sector (held_writes self.now))
+            (YoungestAt sector (held_writes self.now)) }
     {
         youngest_to(&self.held, sector)
     }
 
     // Makes room for one more: if as many are held as may be, the one held longest is passed on.
     fn make_room(&mut self) -> Result<(), Fault>
-        ensures free { length self.old.held.items < 8 → self.new.below ≡ self.old.below }
-        ensures evicts { length self.old.held.items ≡ 8 → (d : PendingWrite) → PassedOn D.means D.writes (slice_index_or self.old.held.items 0 d) result self.old.below self.new.below }
-        ensures room { MakesRoom result self.old.held.items self.new.held.items (D.means self.old.below) (D.means self.new.below) }
+        ensures free { length (held_writes self.old) < 8 → device_below self.new ≡ device_below self.old }
+        ensures evicts { length (held_writes self.old) ≡ 8 → (d : PendingWrite)
+            → PassedOn D.means D.writes (slice_index_or (held_writes self.old) 0 d) result
+            (device_below self.old) (device_below self.new) }
+        ensures room { MakesRoom result (held_writes self.old) (held_writes self.new)
+            (D.means (device_below self.old)) (D.means (device_below self.new)) }
     {
         if self.held.is_full() {
             pass_on(&mut self.below, self.held[0])?;
@@ -79,10 +88,15 @@ impl<D: Device> Cache<D> {
 
     // Takes a write, in the place of an earlier one to its sector or as the youngest.
     fn hold(&mut self, write: PendingWrite) -> Result<(), Fault>
-        ensures rules { (D.means self.old.below).on ≡ true → write.sector < (D.means self.old.below).count → WriteCall write.sector write.bytes result (with_waiting self.old.held.items (D.means self.old.below)) (with_waiting self.new.held.items (D.means self.new.below)) }
-        ensures held { HeldAfter write.sector write.bytes result self.old.held.items self.new.held.items }
-        ensures free { (length self.old.held.items < 8) ⊎ (Absent write.sector self.old.held.items → ⊥) → self.new.below ≡ self.old.below }
-        ensures evicts { length self.old.held.items ≡ 8 → Absent write.sector self.old.held.items → (d : PendingWrite) → PassedOn D.means D.writes (slice_index_or self.old.held.items 0 d) result self.old.below self.new.below }
+        ensures rules { (D.means (device_below self.old)).on ≡ true
+            → write.sector < (D.means (device_below self.old)).count
+            → WriteCall write.sector write.bytes result (cached D.means self.old) (cached D.means self.new) }
+        ensures held { HeldAfter write.sector write.bytes result (held_writes self.old) (held_writes self.new) }
+        ensures free { (length (held_writes self.old) < 8) ⊎ (Absent write.sector (held_writes self.old) → ⊥)
+            → device_below self.new ≡ device_below self.old }
+        ensures evicts { length (held_writes self.old) ≡ 8 → Absent write.sector (held_writes self.old)
+            → (d : PendingWrite) → PassedOn D.means D.writes (slice_index_or (held_writes self.old) 0 d) result
+            (device_below self.old) (device_below self.new) }
     {
         if let Some(place) = self.place_of(write.sector) {
             self.held[place] = write;
@@ -117,15 +131,17 @@ fn pass_all_on<D: Device>(below: &mut D, writes: &[PendingWrite]) -> Result<(), 
 }
 
 impl<D: Device> Device for Cache<D> {
-    ghost means = { λ d. with_waiting d.held.items (D.Device.means d.below) };
+    ghost use Rattle.cache.specs.Caches.{held_writes, device_below, cached, ReadsBelow, WritesBelow, FlushesBelow};
 
-    ghost laws = { λ d. laws_waiting d.held.items (D.Device.means d.below) (D.Device.laws d.below) };
+    ghost means = { cached D.Device.means };
 
-    ghost reads = { λ c s x y r c'. ReadsBelow D.Device.means D.Device.reads s x y r c.held.items c'.held.items c.below c'.below };
+    ghost laws = { λ c. laws_waiting (held_writes c) (D.Device.means (device_below c)) (D.Device.laws (device_below c)) };
 
-    ghost writes = { λ c s b r c'. WritesBelow D.Device.means D.Device.writes s b r c.held.items c'.held.items c.below c'.below };
+    ghost reads = { λ c s x y r c'. ReadsBelow D.Device.means D.Device.reads s x y r c c' };
 
-    ghost flushes = { λ c r c'. FlushesBelow D.Device.means D.Device.writes D.Device.flushes r c.held.items c'.held.items c.below c'.below };
+    ghost writes = { λ c s b r c'. WritesBelow D.Device.means D.Device.writes s b r c c' };
+
+    ghost flushes = { λ c r c'. FlushesBelow D.Device.means D.Device.writes D.Device.flushes r c c' };
 
     fn count(&self) -> u32 {
         self.below.count() // nothing is added

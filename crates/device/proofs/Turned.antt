@@ -4,8 +4,7 @@ use Rattle.std.proofs.Common.{◌≡◌, ℕ, suc, ◌+◌, ◌-◌, ◌<◌, �
 use lib.Seq.{take-set-lt}
 use Rattle.std.proofs.lemmas.List.{take-set-le, drop-set-add, drop-set-lt, set-append_left, set-append_right, take_more_set, take_more, drop_more, length-append, length-drop, length-take-le, take-append-le, take_all, drop_all, get_or_append_left, get_or-append_right, get_or-take, get_or-drop}
 use Rattle.std.proofs.lemmas.Bool.{cases_lt}
-use Rattle.device.specs.declared.queue.Queue.{Queue}
-use Rattle.device.specs.Queues.{ring, waiting}
+use Rattle.device.specs.Queues.{ring}
 
 module _ {X : Type 0} where
   unfoldable turned : List X → ℕ → List X
@@ -29,10 +28,6 @@ module _ {X : Type 0} where
         omega arith
     | inr h ↦ ap length (turned_past xs f h)
   ]
-
-  pub length_ring : (xs : List X) (f k : ℕ) → k ≤ length xs → length (ring xs f k) ≡ k
-  unfolding turned
-  length_ring xs f k l = length-take-le k (turned xs f) (let n = length_turned xs f in omega arith)
 
   -- the place `at` of the list is the place `k` of the turned ring, for a write and for a read
   record Stands (xs : List X) (f k at : ℕ) : Type 0 where
@@ -133,7 +128,3 @@ module _ {X : Type 0} where
         ap (ring xs f) (omega arith)
         ∙ rest_of xs f 0 (k - 1) x h (omega arith) (t ∙ one_more xs f x h)
         ∙ ap (λ (z : X). z ∷ ring xs 0 (k - 1)) (sym (oldest k x h l))
-
--- a queue counts those that wait
-pub len_waiting : {X : Type 0} (q : Queue X) → length (waiting q) ≡ q.len
-len_waiting q = length_ring q.slots.now q.first q.len q.fits

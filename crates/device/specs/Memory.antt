@@ -3,10 +3,18 @@
 use Rattle.std.specs.Prelude.{◌≡◌, ℕ, ◌+◌, ◌*◌, ◌/◌, ◌<◌, ◌≤◌, min, true, List, ◌++◌, length, take, drop, MatchResult, refl}
 use Rattle.std.proofs.Common.{sym, subst}
 use Rattle.device.specs.declared.fault.Fault.{Fault}
+use Rattle.device.specs.declared.rows.Rows.{Rows}
 use Rattle.device.specs.declared.fault.Fault.TheVariants.{NoSector}
 use Rattle.device.specs.Faults.{Answer}
 use Rattle.device.specs.Sector.{Content, Image, Possible, Lawful}
 use Rattle.device.specs.Rules.{Meaning, meaning, Laws}
+
+-- the bytes of such rows, and which piece of the caller's memory they are
+abbrev pub bytes_of : {w : ℕ} → Rows w → List ℕ
+bytes_of r = r.bytes.now
+
+abbrev pub bytes_at : {w : ℕ} → Rows w → ℕ
+bytes_at r = r.bytes.ghost_name
 
 -- how many sectors memory m has room for; their numbers and their count have 32 bits
 abbrev pub row_count : ℕ → List ℕ → ℕ

@@ -15,13 +15,13 @@ pub struct Queue<'a, T> {
 
 // That a call leaves the queue on the same slice is a clause of each, `same`: it is about before and after, which no type can tell.
 impl<'a, T: Copy> Queue<'a, T> {
-    ghost use Rattle.device.specs.Queues.{ring, waiting, places, PutsOne, At};
+    ghost use Rattle.device.specs.Queues.{ring, waiting, places, in_places, places_at, Joins, IsFull, At};
 
     /// An empty queue in these places, which it leaves as they are.
     pub fn new(slots: &'a mut [T]) -> Queue<'a, T>
         ensures empty { waiting result ≡ [] }
-        ensures untouched { result.slots.now ≡ slots.old }
-        ensures same { result.slots.ghost_name ≡ slots.entry.ghost_name }
+        ensures untouched { in_places result ≡ slots.old }
+        ensures same { places_at result ≡ slots.entry.ghost_name }
     {
         Queue {
             slots,
@@ -64,9 +64,9 @@ impl<'a, T: Copy> Queue<'a, T> {
 
     /// Puts one behind all others, or gives it back if every place is taken.
     pub fn push(&mut self, x: T) -> Result<(), T>
-        ensures put { MatchResult result (λ _. (waiting self.new ≡ waiting self.old ++ x ∷ []) × (length (waiting self.old) < places self.old) × PutsOne x self.old.slots.now self.new.slots.now) (λ y. (y ≡ x) × (length (waiting self.old) ≡ places self.old) × (self.new ≡ self.old)) }
+        ensures put { MatchResult result (λ _. Joins x self.old self.new) (λ y. (y ≡ x) × IsFull self.old × (self.new ≡ self.old)) }
         ensures room { places self.new ≡ places self.old }
-        ensures same { self.new.slots.ghost_name ≡ self.old.slots.ghost_name }
+        ensures same { places_at self.new ≡ places_at self.old }
     {
         if self.len == self.slots.len() {
             return Err(x);
@@ -81,8 +81,8 @@ impl<'a, T: Copy> Queue<'a, T> {
     /// Takes out the oldest.
     pub fn pop(&mut self) -> Option<T>
         ensures taken { MatchOption result ((waiting self.old ≡ []) × (self.new ≡ self.old)) (λ x. waiting self.old ≡ x ∷ waiting self.new) }
-        ensures untouched { self.new.slots.now ≡ self.old.slots.now }
-        ensures same { self.new.slots.ghost_name ≡ self.old.slots.ghost_name }
+        ensures untouched { in_places self.new ≡ in_places self.old }
+        ensures same { places_at self.new ≡ places_at self.old }
     {
         if self.len == 0 {
             return None;
@@ -96,16 +96,16 @@ impl<'a, T: Copy> Queue<'a, T> {
     /// Lets go of all that wait.
     pub fn clear(&mut self)
         ensures empty { waiting self.new ≡ [] }
-        ensures untouched { self.new.slots.now ≡ self.old.slots.now }
-        ensures same { self.new.slots.ghost_name ≡ self.old.slots.ghost_name }
+        ensures untouched { in_places self.new ≡ in_places self.old }
+        ensures same { places_at self.new ≡ places_at self.old }
     {
         self.len = 0;
     }
 
     /// The caller's places, as they stand.
     pub fn into_slots(self) -> &'a mut [T]
-        ensures value { result.now ≡ self.entry.slots.now }
-        ensures same { result.ghost_name ≡ self.entry.slots.ghost_name }
+        ensures value { result.now ≡ in_places self.entry }
+        ensures same { result.ghost_name ≡ places_at self.entry }
     {
         let Queue { slots, .. } = self;
         slots

@@ -1,7 +1,6 @@
 //! The row image: a device over the caller's memory, 64 bytes a sector. What is written lasts at once, and it never turns off.
 ghost use Rattle.std.specs.Prelude.{◌≡◌, ◌%◌, length, MatchResult, ◌≢◌};
 ghost use Rattle.media.specs.Rows.{rows_mean};
-ghost use Rattle.media.specs.Cards.{PutsInRow};
 ghost use Rattle.media.specs.Lawful.{rows_laws};
 
 use crate::memory::{MemoryError, Refused};
@@ -15,10 +14,16 @@ pub struct RowImage<'a> {
 }
 
 impl<'a> RowImage<'a> {
+    ghost use Rattle.media.specs.Cards.{memory, memory_at};
+
     /// A device over this memory, as it stands; refused, and given back, if it is not whole rows.
     pub fn new(rows: &'a mut [u8]) -> Result<RowImage<'a>, Refused<'a>>
-        ensures made { MatchResult result (λ d. (length rows.old % 64 ≡ 0) × (d.rows.bytes.now ≡ rows.old)) (λ e. (length rows.old % 64 ≢ 0) × (e.reason ≡ MemoryError.NotWholeRows) × (e.rows.now ≡ rows.old)) }
-        ensures same { MatchResult result (λ d. d.rows.bytes.ghost_name ≡ rows.entry.ghost_name) (λ e. e.rows.ghost_name ≡ rows.entry.ghost_name) }
+        ensures made { MatchResult result
+            (λ d. (length rows.old % 64 ≡ 0) × (memory d ≡ rows.old))
+            (λ e. (length rows.old % 64 ≢ 0) × (e.reason ≡ MemoryError.NotWholeRows) × (e.rows.now ≡ rows.old)) }
+        ensures same { MatchResult result
+            (λ d. memory_at d ≡ rows.entry.ghost_name)
+            (λ e. e.rows.ghost_name ≡ rows.entry.ghost_name) }
     {
         match Rows::new(rows) {
             Ok(rows) => Ok(RowImage { rows }),
@@ -31,17 +36,19 @@ impl<'a> RowImage<'a> {
 
     /// The memory, as it stands now.
     pub fn into_rows(self) -> &'a mut [u8]
-        ensures value { result.now ≡ self.entry.rows.bytes.now }
-        ensures same { result.ghost_name ≡ self.entry.rows.bytes.ghost_name }
+        ensures value { result.now ≡ memory self.entry }
+        ensures same { result.ghost_name ≡ memory_at self.entry }
     {
         self.rows.into_bytes()
     }
 }
 
 impl<'a> Device for RowImage<'a> {
-    ghost means = { λ d. rows_mean d.rows.bytes.now };
+    ghost use Rattle.media.specs.Cards.{memory, PutsInRow};
 
-    ghost laws = { λ d. rows_laws d.rows.bytes.now };
+    ghost means = { λ d. rows_mean (memory d) };
+
+    ghost laws = { λ d. rows_laws (memory d) };
 
     ghost reads = { λ d s x y r d'. d' ≡ d };
 

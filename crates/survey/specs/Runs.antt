@@ -1,6 +1,6 @@
 -- Runs of neighbouring sectors in one condition.
 -- Assumes nothing.
-use Rattle.std.specs.Prelude.{◌≡◌, ℕ, ◌+◌, ◌<◌, ◌≤◌, cond, List, [], ◌∷◌, length, drop, ◌==◌, Some, None, Option, MatchOption, ◌≢◌}
+use Rattle.std.specs.Prelude.{◌≡◌, ℕ, ◌+◌, ◌-◌, ◌<◌, ◌≤◌, cond, List, [], ◌∷◌, length, drop, ◌==◌, Some, None, Option, MatchOption, ◌≢◌}
 use Rattle.survey.specs.declared.condition.Condition.{Condition}
 use Rattle.survey.specs.declared.condition.Run.{Run}
 use Rattle.survey.specs.declared.runs.Runs.{Runs}
@@ -38,6 +38,10 @@ LooksFrom runs xs k from = (runs.conditions.now ≡ xs) × (runs.wanted ≡ k) �
 -- the runs that an iterator has left
 abbrev pub runs_left : Runs → List Run
 runs_left runs = runs_in runs.wanted runs.from (drop runs.from runs.conditions.now)
+
+-- how many sectors it has yet to look at
+abbrev pub sectors_left : Runs → ℕ
+sectors_left runs = length runs.conditions.now - runs.from
 
 -- it gives the next run and goes on behind it; where none is left it stays as it is
 abbrev pub GivesRun : Runs → Option Run → Runs → Type 0

@@ -2,7 +2,7 @@
 ghost use Rattle.std.specs.Prelude.{◌≡◌, ℕ, ◌+◌, ◌-◌, ◌<◌, ◌≤◌, length, MatchOption, ◌≢◌};
 ghost use Rattle.std.specs.Iterator.{at_most};
 ghost use Rattle.survey.specs.Conditions.{at, count_of};
-ghost use Rattle.survey.specs.Runs.{NextRun, GivesRun, LooksFrom};
+ghost use Rattle.survey.specs.Runs.{NextRun, GivesRun, LooksFrom, sectors_left};
 
 use crate::condition::{Condition, Run};
 use std::fmt;
@@ -79,7 +79,7 @@ impl Iterator for Runs<'_> {
 
     ghost next_gives = { GivesRun };
 
-    ghost remaining = { λ runs. at_most (length runs.conditions.now - runs.from) };
+    ghost remaining = { λ runs. at_most (sectors_left runs) };
 
     fn next(&mut self) -> Option<Run> {
         let run = next_run(self.conditions, self.wanted, self.from)?;

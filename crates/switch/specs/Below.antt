@@ -7,21 +7,32 @@ use Rattle.device.specs.Faults.{Answer}
 use Rattle.device.specs.Rules.{Meaning, meaning, Laws, WriteCall}
 use Rattle.switch.specs.Fates.{fate, Counts}
 use Rattle.switch.specs.declared.fuse.Fate.TheVariants.{Refused, Cut, Passed}
+use Rattle.switch.specs.declared.fuse.Fuse.{Fuse}
 use Rattle.switch.specs.declared.fuse.LastWrite.{LastWrite}
 use Rattle.switch.specs.declared.fuse.LastWrite.TheVariants.{Lost, Reached}
 use Rattle.switch.specs.declared.switch.Switch.{Switch}
 
+-- what a switch is made of: the device below, the fuse, and the choice for the last write
+abbrev pub device_below : {D : Type 0} → Switch D → D
+device_below d = d.below
+
+abbrev pub fuse_of : {D : Type 0} → Switch D → Fuse
+fuse_of d = d.fuse
+
+abbrev pub last_of : {D : Type 0} → Switch D → LastWrite
+last_of d = d.last
+
 -- the call is counted, and the choice for the last write stays
 pub record Counted {D : Type 0} (d d' : Switch D) : Type 0 where
-  pub fuse : Counts d.fuse d'.fuse
-  pub last : d'.last ≡ d.last
+  pub fuse : Counts (fuse_of d) (fuse_of d')
+  pub last : last_of d' ≡ last_of d
 
 -- A read of sector s: passed on, it is one read below, with the same bytes and answer. Else it answers that the device is off, and leaves
 -- the device below and the caller's bytes, which held x and then hold y.
 pub record ReadsBelow {D : Type 0} (ReadMade : D → ℕ → List ℕ → List ℕ → Answer → D → Type 0) (s : ℕ) (x y : List ℕ) (r : Answer) (d d' : Switch D) : Type 0 where
   pub counted : Counted d d'
-  pub passed : fate d.fuse ≡ Passed → ReadMade d.below s x y r d'.below
-  pub stopped : (fate d.fuse ≢ Passed) → (r ≡ Err Off) × (y ≡ x) × (d'.below ≡ d.below)
+  pub passed : fate (fuse_of d) ≡ Passed → ReadMade (device_below d) s x y r (device_below d')
+  pub stopped : (fate (fuse_of d) ≢ Passed) → (r ≡ Err Off) × (y ≡ x) × (device_below d' ≡ device_below d)
 
 -- The write of b to sector s within which the switch turns off: below, it is one write with some answer, by the rules, or nothing.
 -- `Means` is what the device below means.
@@ -32,16 +43,16 @@ LastWrites Means WriteMade Reached s b d d' = (a : Answer) × WriteMade d s b a 
 -- A write of b to sector s: passed on, it is one write below, with the same answer. Else it answers that the device is off.
 pub record WritesBelow {D : Type 0} (Means : D → Meaning) (WriteMade : D → ℕ → List ℕ → Answer → D → Type 0) (s : ℕ) (b : List ℕ) (r : Answer) (d d' : Switch D) : Type 0 where
   pub counted : Counted d d'
-  pub passed : fate d.fuse ≡ Passed → WriteMade d.below s b r d'.below
-  pub stopped : (fate d.fuse ≢ Passed) → r ≡ Err Off
-  pub cut : fate d.fuse ≡ Cut → LastWrites Means WriteMade d.last s b d.below d'.below
-  pub refused : fate d.fuse ≡ Refused → d'.below ≡ d.below
+  pub passed : fate (fuse_of d) ≡ Passed → WriteMade (device_below d) s b r (device_below d')
+  pub stopped : (fate (fuse_of d) ≢ Passed) → r ≡ Err Off
+  pub cut : fate (fuse_of d) ≡ Cut → LastWrites Means WriteMade (last_of d) s b (device_below d) (device_below d')
+  pub refused : fate (fuse_of d) ≡ Refused → device_below d' ≡ device_below d
 
 -- A flush: passed on, it is one flush below, with the same answer. Else it answers that the device is off, and does nothing below.
 pub record FlushesBelow {D : Type 0} (FlushMade : D → Answer → D → Type 0) (r : Answer) (d d' : Switch D) : Type 0 where
   pub counted : Counted d d'
-  pub passed : fate d.fuse ≡ Passed → FlushMade d.below r d'.below
-  pub stopped : (fate d.fuse ≢ Passed) → (r ≡ Err Off) × (d'.below ≡ d.below)
+  pub passed : fate (fuse_of d) ≡ Passed → FlushMade (device_below d) r (device_below d')
+  pub stopped : (fate (fuse_of d) ≢ Passed) → (r ≡ Err Off) × (device_below d' ≡ device_below d)
 
 -- what a device that means m is under a switch: it is on while both are
 abbrev pub switched : Bool → Meaning → Meaning

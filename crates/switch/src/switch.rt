@@ -1,7 +1,7 @@
 //! A power switch: a device over any device, which turns off within a chosen call.
 ghost use Rattle.std.specs.Prelude.{◌≡◌, ℕ, true, ◌&&◌};
 ghost use Rattle.switch.specs.Fates.{Ran, Planned, fuse_for, is_on};
-ghost use Rattle.switch.specs.Below.{ReadsBelow, WritesBelow, FlushesBelow, switched, switched_laws};
+ghost use Rattle.switch.specs.Below.{device_below, fuse_of, last_of, ReadsBelow, WritesBelow, FlushesBelow, switched, switched_laws};
 
 use crate::fuse::{Fate, Fuse, LastWrite};
 use device::{Device, Fault, PAYLOAD};
@@ -17,11 +17,11 @@ pub struct Switch<D> {
 impl<D: Device> Switch<D> {
     /// A switch that is on. It turns off within this call, counted from 1; at 0 never, since no call has that number.
     pub fn new(below: D, call: u32, last: LastWrite) -> Switch<D>
-        ensures below { result.below ≡ below }
-        ensures on { is_on result.fuse ≡ true }
-        ensures fuse { result.fuse ≡ fuse_for call }
-        ensures planned { (n : ℕ) (f : Fuse) → Ran n result.fuse f → Planned call n f }
-        ensures last { result.last ≡ last }
+        ensures below { device_below result ≡ below }
+        ensures on { is_on (fuse_of result) ≡ true }
+        ensures fuse { fuse_of result ≡ fuse_for call }
+        ensures planned { (n : ℕ) (f : Fuse) → Ran n (fuse_of result) f → Planned call n f }
+        ensures last { last_of result ≡ last }
     {
         let fuse = call.checked_sub(1).map_or(Fuse::Lasting, Fuse::After);
         Switch { below, fuse, last }
@@ -29,23 +29,23 @@ impl<D: Device> Switch<D> {
 
     /// Whether the switch itself is still on.
     pub fn is_switched_on(&self) -> bool
-        ensures { result ≡ is_on self.now.fuse }
+        ensures { result ≡ is_on (fuse_of self.now) }
     {
         self.fuse.is_on() // the device below may be off
     }
 
     /// The device below, as it stands.
     pub fn into_below(self) -> D
-        ensures { result ≡ self.below }
+        ensures { result ≡ device_below self }
     {
         self.below // it may be on, though the switch is off
     }
 }
 
 impl<D: Device> Device for Switch<D> {
-    ghost means = { λ d. switched (is_on d.fuse) (D.Device.means d.below) };
+    ghost means = { λ d. switched (is_on (fuse_of d)) (D.Device.means (device_below d)) };
 
-    ghost laws = { λ d. switched_laws (is_on d.fuse) (D.Device.means d.below) (D.Device.laws d.below) };
+    ghost laws = { λ d. switched_laws (is_on (fuse_of d)) (D.Device.means (device_below d)) (D.Device.laws (device_below d)) };
 
     ghost reads = { λ d s x y r d'. ReadsBelow D.Device.reads s x y r d d' };
 

@@ -4,7 +4,6 @@ use Rattle.std.proofs.Common.{ℕ, get_or, ap, ◌∙◌, subst, arith}
 use Rattle.device.specs.declared.pending.PendingWrite.{PendingWrite}
 use Rattle.device.specs.declared.queue.Queue.{Queue}
 use Rattle.device.specs.Queues.{waiting}
-use Rattle.device.proofs.Turned.{len_waiting}
 use Rattle.bench.specs.Benches.{memory, queued}
 use Rattle.bench.specs.Settling.{SettlesAt}
 use Rattle.bench.proofs.Settled.{one_more_before, all_settled, settled_current, settled_only, settled_found, reaches}
@@ -36,7 +35,7 @@ returns c =
       current = settled_current cs ws _ m _ empty all;
       only = settled_only cs ws _ m _ empty all;
       found = settled_found cs ws _ m _ empty all;
-      reaches = reaches ws m (let q = c.args.self.now in omega (arith, q.few, len_waiting q.pending));
+      reaches = reaches ws m c.args.self.now.few;
       pending = empty;
       same = record {
         rows = inv.same;

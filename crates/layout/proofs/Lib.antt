@@ -1,0 +1,10 @@
+pub mod Numbers
+pub mod Headers
+pub mod Records
+pub mod Homes
+pub mod Bytes
+pub mod Marks
+pub mod DataKinds
+pub mod OneBody
+pub mod PageSlots
+pub mod Bits

@@ -1,0 +1,7 @@
+use Rattle.std.proofs.Common.{◌≡◌, ◌*◌, length, take}
+use Rattle.std.specs.List.{flat_map}
+use Rattle.layout.specs.Numbers.{four}
+use Rattle.layout.proofs.body.bytes_of.Given as goal
+
+abbrev pub invariant-loop-at : goal.invariant-loop-at
+invariant-loop-at l = record { all : length l.bytes ≡ 48; written : take (4 * l.at) l.bytes ≡ flat_map four (take l.at l.words) }

@@ -1,0 +1,13 @@
+-- The bytes of a header, and where it is valid.
+-- Assumes nothing.
+use Rattle.std.specs.Prelude.{◌≡◌, ℕ, ◌%◌, List, ◌∷◌, [], ◌++◌}
+use Rattle.layout.specs.declared.header.Header.{Header}
+use Rattle.layout.specs.Numbers.{two, four, zeros}
+
+-- byte 0 is the kind of sector, and byte 1 the edition of the format
+unfoldable pub header_bytes : Header → List ℕ
+header_bytes h = 4 ∷ 1 ∷ [] ++ two h.geometry.log ++ four h.epoch ++ four h.geometry.sectors ++ four h.transactions ++ zeros 44
+
+-- valid in sector s of a device with n sectors
+abbrev pub IsValidIn : ℕ → ℕ → Header → Type 0
+IsValidIn s n h = (h.geometry.sectors ≡ n) × (h.epoch % 2 ≡ s)

@@ -1,0 +1,8 @@
+-- The bytes of a home: its own sector number, and the body of the page that lives there.
+-- Assumes nothing.
+use Rattle.std.specs.Prelude.{ℕ, List, ◌∷◌, [], ◌++◌}
+use Rattle.layout.specs.Numbers.{four, zeros}
+
+-- byte 0 is the kind of sector
+unfoldable pub home_bytes : ℕ → List ℕ → List ℕ
+home_bytes s body = 3 ∷ 0 ∷ 0 ∷ 0 ∷ [] ++ four s ++ zeros 4 ++ body

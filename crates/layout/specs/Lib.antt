@@ -1,0 +1,11 @@
+pub mod Numbers
+pub mod Geometries
+pub mod Headers
+pub mod Records
+pub mod Homes
+pub mod Classes
+pub mod Words
+pub mod Pages
+pub mod Bodies
+pub mod Slots
+pub mod RecordBytes

@@ -1,0 +1,45 @@
+//! How a card is divided: headers, log, root page, data pages.
+ghost use Rattle.std.specs.Prelude.{◌≡◌, ◌+◌, ◌<◌, ◌≤◌, IsTrue, ◌↔◌, IfSome, IsSome};
+
+/// A card's count of sectors and the length of its log, within the limits of the format.
+// The format stores the log's length in two bytes and a sector's number in four.
+#[derive(Clone, Copy, Debug, PartialEq, Eq)]
+pub struct Geometry {
+    pub sectors: u32,
+    pub log: u16,
+    ghost least_log: { 9 ≤ log },
+    ghost most_log: { log ≤ 64 },
+    ghost room: { log + 4 ≤ sectors },
+    ghost most: { sectors ≤ 1024 },
+}
+
+impl Geometry {
+    ghost use Rattle.layout.specs.Geometries.{Within, root_of, IsPage};
+
+    /// The division of a card of so many sectors with a log of this length, if they are within the limits.
+    pub fn new(sectors: u32, log: u16) -> Option<Geometry>
+        ensures within { IsSome result ↔ Within sectors log }
+        ensures value { IfSome result (λ g. (g.sectors ≡ sectors) × (g.log ≡ log)) }
+    {
+        let enough = u32::from(log) + 4 <= sectors;
+        if (9..=64).contains(&log) && enough && sectors <= 1024 {
+            Some(Geometry { sectors, log })
+        } else {
+            None
+        }
+    }
+
+    /// The sector of the root page; the data pages follow it.
+    pub fn root(self) -> u32
+        ensures { result ≡ root_of self }
+    {
+        u32::from(self.log) + 2
+    }
+
+    /// Whether a page has its home in this sector.
+    pub fn has_page(self, sector: u32) -> bool
+        ensures { IsTrue result ↔ IsPage self sector }
+    {
+        (self.root()..self.sectors).contains(&sector)
+    }
+}

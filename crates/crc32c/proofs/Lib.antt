@@ -1,3 +1,3 @@
 mod Division
 mod Register
-mod Worked
+pub mod Worked

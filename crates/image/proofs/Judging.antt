@@ -1,0 +1,186 @@
+-- The pages as they are judged, one after another.
+-- Assumes nothing.
+use Rattle.std.proofs.Common.{◌≡◌, ℕ, ◌+◌, ◌-◌, ◌<◌, ◌≤◌, List, [], ◌∷◌, ◌++◌, length, Some, None, Option, MatchOption, sym, refl, ap, ◌∙◌, subst, inl, inr, arith}
+use Rattle.std.specs.Prelude.{IfSome}
+use Rattle.std.proofs.lemmas.List.{get_or_append_left, get_or_push, length_push}
+use Rattle.std.proofs.lemmas.Bool.{cases_lt}
+use Rattle.device.specs.Sector.{Image}
+use Rattle.layout.specs.declared.header.Header.{Header}
+use Rattle.layout.specs.declared.page.Page.{Page}
+use Rattle.layout.specs.Geometries.{root_of, IsPage}
+use Rattle.layout.specs.Pages.{Shaped}
+use Rattle.layout.specs.Bodies.{body_bytes}
+use Rattle.image.specs.declared.refusal.Refusal.{Refusal}
+use Rattle.image.specs.declared.log.LogRead.{LogRead}
+use Rattle.image.specs.declared.tally.Tally.{Tally}
+use Rattle.image.specs.declared.judged.PagesJudged.{PagesJudged}
+use Rattle.image.specs.Logs.{Change}
+use Rattle.image.specs.Heaps.{Heap, HasPage, page_of, free_page, DanglesIn, Dangles, NoneDangles, FirstDangling}
+use Rattle.image.specs.Images.{HasBody, IsPageAt, Shows, FirstFault, Judged}
+use Rattle.image.specs.Stages.{IsReadOf, IsFaultOf, FindsBody, FindsNoBody, FindsPage, FindsNoPage, IsJudgedOf}
+use Rattle.image.specs.Tallies.{page_at, IsTallyOf, IsTallyOfHeap}
+use Rattle.image.proofs.Single.{header_one, log_one, body_one, page_one, page_inside, inside_page}
+
+module _ (n : ℕ) (σ : Image) (x : LogRead) (r : IsReadOf n σ x) where
+  -- the pages before sector s are lawful, and counted
+  pub record PagesSoFar (s : ℕ) (t : Tally) : Type 0 where
+    pub pages : List Page
+    pub at : root_of x.header.geometry + length pages ≡ s
+    pub lawful : (i : ℕ) → i < length pages → IsPageAt σ x.header r.log (root_of x.header.geometry + i) (page_at pages i)
+    pub tally : IsTallyOf (root_of x.header.geometry) pages t
+
+  pub no_page_yet : (s : ℕ) (t : Tally) → s ≡ root_of x.header.geometry → IsTallyOf (root_of x.header.geometry) [] t → PagesSoFar s t
+  no_page_yet s t e y = record { pages = []; at = omega arith; lawful = λ i l. absurd (omega arith); tally = y }
+
+  pub one_more_page : (s : ℕ) (t u : Tally) (p : Page) → IsPage x.header.geometry s → (y : PagesSoFar s t) → FindsPage n σ x s p
+      → IsTallyOf (root_of x.header.geometry) (y.pages ++ p ∷ []) u → PagesSoFar (s + 1) u
+  one_more_page s t u p inside y f z = record {
+    pages = y.pages ++ p ∷ [];
+    at = omega (arith, y.at, length_push y.pages p);
+    lawful = λ i l. elim (cases_lt i (length y.pages)) [
+      | inl m ↦ subst (λ (q : Page). IsPageAt σ x.header r.log (root_of x.header.geometry + i) q) (sym (get_or_append_left y.pages (p ∷ []) free_page i m)) (y.lawful i m)
+      | inr m ↦
+          let e : length y.pages ≡ i = omega (arith, length_push y.pages p) in
+          let w : s ≡ root_of x.header.geometry + i = omega (arith, y.at) in
+          subst (λ (q : Page). IsPageAt σ x.header r.log (root_of x.header.geometry + i) q) (sym (get_or_push y.pages p free_page i e))
+          (subst (λ (k : ℕ). IsPageAt σ x.header r.log k p) w (f r inside))
+    ];
+    tally = z;
+  }
+
+  pub fault_judged : (s : ℕ) (t : Tally) (q : Refusal) → IsPage x.header.geometry s → PagesSoFar s t → FindsNoPage n σ x s q → Judged n σ q
+  fault_judged s t q inside y f =
+      let g = f r inside in
+      let first : FirstFault σ x.header r.log s = record { page = inside; fault = g.0; before = λ u i l. earlier u i l } in
+      told first g.1
+    where
+      earlier : (u : ℕ) → IsPage x.header.geometry u → u < s → (p : Page) × IsPageAt σ x.header r.log u p
+      earlier u i l =
+          let k = u - root_of x.header.geometry in
+          let e : root_of x.header.geometry + k ≡ u = omega arith in
+          (page_at y.pages k, subst (λ (v : ℕ). IsPageAt σ x.header r.log v (page_at y.pages k)) e (y.lawful k (omega (arith, y.at))))
+
+      told : FirstFault σ x.header r.log s → IsFaultOf σ r.log s q → Judged n σ q
+      told a (inl (e, b)) = subst (λ (p : Refusal). Judged n σ p) (sym e) (x.header, (r.log, r.reads, a, b))
+      told a (inr (e, b)) = subst (λ (p : Refusal). Judged n σ p) (sym e) (x.header, (r.log, r.reads, a, b))
+
+  -- all pages are lawful: this is the heap
+  pub all_pages : (t : Tally) → PagesSoFar x.header.geometry.sectors t → (H : Heap) × Shows n σ H × IsTallyOfHeap H t
+  all_pages t y =
+      let z : x.header.geometry.sectors ≡ n = r.reads.header.valid.0.0 in
+      let m = x.header.geometry.most in
+      let H : Heap = record { transactions = x.transactions; root = root_of x.header.geometry; pages = y.pages } in (
+        H,
+        record {
+          header = x.header;
+          log = r.log;
+          read = r.reads;
+          transactions = r.has.transactions;
+          root = refl;
+          sectors = y.at ∙ z;
+          pages = λ s i. let k = s - root_of x.header.geometry in
+              let e : root_of x.header.geometry + k ≡ s = omega arith in
+              subst (λ (v : ℕ). IsPageAt σ x.header r.log v (page_at y.pages k)) e (y.lawful k (omega (arith, y.at)));
+        },
+        record { of = y.tally; fits = omega (arith, y.at) },
+      )
+
+  -- the count and the root of the heap
+  pub shown : (H : Heap) → Shows n σ H → (x.transactions ≡ H.transactions) × (root_of x.header.geometry ≡ H.root)
+  shown H a =
+      let e : a.header ≡ x.header = header_one n σ a.header x.header a.read.header r.reads.header in
+      let f : a.log ≡ r.log = log_one n σ _ _ _ _ e a.read.log r.reads.log in
+      (r.has.transactions ∙ sym (a.transactions ∙ cc (e, f)), sym (a.root ∙ ap (λ (h : Header). root_of h.geometry) e))
+
+  -- the page that is read is the heap's
+  pub page_is : (H : Heap) (a : Shows n σ H) (s : ℕ) (p : Page) → IsPage x.header.geometry s → FindsPage n σ x s p → p ≡ page_of H s
+  page_is H a s p inside f =
+      let e = header_one n σ x.header a.header r.reads.header a.read.header in
+      let g = log_one n σ _ _ _ _ e r.reads.log a.read.log in
+      let y = a.pages s (subst (λ (h : Header). IsPage h.geometry s) e inside) in
+      let z = subst (λ (h : Header). IsPageAt σ h a.log s (page_of H s)) (sym e) y in
+      page_one σ x.header r.log s p (page_of H s) (f r inside) (subst (λ (us : List (List Change)). IsPageAt σ x.header us s (page_of H s)) (sym g) z)
+
+  pub no_page_shown : (H : Heap) → Shows n σ H → (s : ℕ) (q : Refusal) → IsPage x.header.geometry s → FindsNoPage n σ x s q → ⊥
+  no_page_shown H a s q inside f =
+      let e = header_one n σ x.header a.header r.reads.header a.read.header in
+      let g = log_one n σ _ _ _ _ e r.reads.log a.read.log in
+      let y = a.pages s (subst (λ (h : Header). IsPage h.geometry s) e inside) in
+      let z = subst (λ (h : Header). IsPageAt σ h a.log s (page_of H s)) (sym e) y in
+      (f r inside).0 (page_of H s) (subst (λ (us : List (List Change)). IsPageAt σ x.header us s (page_of H s)) (sym g) z)
+
+  -- no data word of the pages before sector s dangles
+  abbrev pub NoneBefore : Tally → ℕ → Type 0
+  NoneBefore t s = (H : Heap) → Shows n σ H → IsTallyOfHeap H t → (u k : ℕ) → HasPage H u → u < s → Dangles H u k → ⊥
+
+  pub none_yet : (t : Tally) (s : ℕ) → s ≡ root_of x.header.geometry → NoneBefore t s
+  none_yet t s e H a y u k h l d =
+      let f : a.header ≡ x.header = header_one n σ a.header x.header a.read.header r.reads.header in
+      let root : H.root ≡ root_of x.header.geometry = a.root ∙ ap (λ (g : Header). root_of g.geometry) f in
+      omega (arith, h.0)
+
+  pub none_more : (t : Tally) (s : ℕ) (p : Page) → IsPage x.header.geometry s → FindsPage n σ x s p → ((H : Heap) → IsTallyOfHeap H t → (j : ℕ) → DanglesIn H p j → ⊥)
+      → NoneBefore t s → NoneBefore t (s + 1)
+  none_more t s p inside f none before H a y u k h l d = elim (cases_lt u s) [
+    | inl m ↦ before H a y u k h m d
+    | inr m ↦
+        let e : u ≡ s = omega arith in
+        let q = page_is H a s p inside f in
+        none H y k (subst (λ (z : Page). DanglesIn H z k) (sym q) (subst (λ (v : ℕ). Dangles H v k) e d))
+  ]
+
+  pub first_found : (t : Tally) (s j : ℕ) (p : Page) → IsPage x.header.geometry s → FindsPage n σ x s p
+      → ((H : Heap) → IsTallyOfHeap H t → DanglesIn H p j × ((k : ℕ) → k < j → DanglesIn H p k → ⊥))
+      → NoneBefore t s → (H : Heap) → Shows n σ H → IsTallyOfHeap H t → FirstDangling H s j
+  first_found t s j p inside f here before H a y =
+      let q = page_is H a s p inside f in
+      let d = here H y in
+      record {
+        page = inside_page n σ H a s (subst (λ (h : Header). IsPage h.geometry s) (header_one n σ x.header a.header r.reads.header a.read.header) inside);
+        dangles = subst (λ (z : Page). DanglesIn H z j) q d.0;
+        before = λ k l e. d.1 k l (subst (λ (z : Page). DanglesIn H z k) (sym q) e);
+        pages_before = λ u k h l e. before H a y u k h l e;
+      }
+
+  -- the pages are all that a heap has
+  pub none_at_all : (t : Tally) (s : ℕ) → x.header.geometry.sectors ≤ s → NoneBefore t s → (H : Heap) → Shows n σ H → IsTallyOfHeap H t → NoneDangles H
+  none_at_all t s l before H a y u k h =
+      let z : x.header.geometry.sectors ≡ n = r.reads.header.valid.0.0 in
+      before H a y u k h (omega (arith, a.sectors))
+
+-- of an image whose pages were judged
+module _ (n : ℕ) (σ : Image) (H : Heap) (y : PagesJudged) (j : IsJudgedOf n σ H y) where
+  pub judged_inside : (s : ℕ) → HasPage H s → IsPage y.log.header.geometry s
+  judged_inside s h =
+      subst (λ (g : Header). IsPage g.geometry s) (header_one n σ j.holds.shows.header y.log.header j.holds.shows.read.header j.read.reads.header) (page_inside n σ H j.holds.shows s h)
+
+  pub judged_page : (s : ℕ) → HasPage H s → (body : List ℕ) (o : Option Page) → FindsBody n σ y.log s body
+      → IfSome o (λ p. Shaped p × (body_bytes p ≡ body)) → ((p : Page) → Shaped p → body_bytes p ≡ body → o ≡ Some p) → o ≡ Some (page_of H s)
+  judged_page s h body o f found only =
+      let inside = judged_inside s h in
+      let e = header_one n σ y.log.header j.holds.shows.header j.read.reads.header j.holds.shows.read.header in
+      let g = log_one n σ _ _ _ _ e j.read.reads.log j.holds.shows.read.log in
+      let p = j.holds.shows.pages s (page_inside n σ H j.holds.shows s h) in
+      let b = subst (λ (us : List (List Change)). HasBody σ us s body) g (f j.read inside) in
+      only (page_of H s) p.0.shaped (body_one σ j.holds.shows.header j.holds.shows.log s _ _ p.1 b)
+
+no_option : {p : Page} → ◌≡◌ {A = Option Page} None (Some p) → ⊥
+no_option e = cc
+
+one_option : {p q : Page} → Some p ≡ Some q → p ≡ q
+one_option e = cc
+
+-- so each of its pages is found again, and a sector where none is has none
+module _ (n : ℕ) (σ : Image) (y : PagesJudged) (s : ℕ) where
+  pub judged_finds : (body : List ℕ) (o : Option Page) → FindsBody n σ y.log s body
+      → IfSome o (λ p. Shaped p × (body_bytes p ≡ body)) → ((p : Page) → Shaped p → body_bytes p ≡ body → o ≡ Some p)
+      → MatchOption o ((H : Heap) → IsJudgedOf n σ H y → HasPage H s → ⊥) (λ p. (H : Heap) → IsJudgedOf n σ H y → HasPage H s → p ≡ page_of H s)
+  judged_finds body None f found only = λ H j h. no_option (judged_page n σ H y j s h body None f found only)
+  judged_finds body (Some p) f found only = λ H j h. one_option (judged_page n σ H y j s h body (Some p) f found only)
+
+  pub judged_none : (q : Refusal) → FindsNoBody n σ y.log s q → (H : Heap) → IsJudgedOf n σ H y → HasPage H s → ⊥
+  judged_none q f H j h =
+      let e = header_one n σ y.log.header j.holds.shows.header j.read.reads.header j.holds.shows.read.header in
+      let g = log_one n σ _ _ _ _ e j.read.reads.log j.holds.shows.read.log in
+      let p = j.holds.shows.pages s (page_inside n σ H j.holds.shows s h) in
+      (f j.read (judged_inside n σ H y j s h)).0 _ (subst (λ (us : List (List Change)). HasBody σ us s (body_bytes (page_of H s))) (sym g) p.1)

@@ -1,0 +1,11 @@
+pub mod Refusals
+pub mod Looking
+pub mod Headers
+pub mod Logs
+pub mod Reading
+pub mod Heaps
+pub mod Images
+pub mod Entries
+pub mod Stages
+pub mod Tallies
+pub mod Examples

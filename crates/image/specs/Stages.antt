@@ -1,0 +1,104 @@
+-- What the stages of an opening know of an image.
+-- Assumes nothing.
+use Rattle.std.specs.Prelude.{◌≡◌, ◌≢◌, ℕ, ◌+◌, ◌⊎◌, List, [], ◌∷◌, ◌++◌, length, map, take, count_by, slice_index_or, Option, Some, None}
+use Rattle.std.specs.List.{sum_by}
+use Rattle.device.specs.Sector.{payload, torn, Image}
+use Rattle.layout.specs.declared.header.Header.{Header}
+use Rattle.image.specs.declared.headers.HeadersRead.{HeadersRead}
+use Rattle.image.specs.declared.log.LogRead.{LogRead}
+use Rattle.image.specs.declared.log.TheConstants.{LONGEST_LOG}
+use Rattle.image.specs.Logs.{Change, span}
+use Rattle.image.specs.Reading.{Reading, ReadsTo}
+use Rattle.layout.specs.declared.page.Page.{Page}
+use Rattle.layout.specs.Geometries.{root_of, IsPage}
+use Rattle.layout.specs.Homes.{home_bytes}
+use Rattle.image.specs.declared.refusal.Refusal.{Refusal}
+use Rattle.image.specs.declared.refusal.Refusal.TheVariants.{Torn, Unlawful}
+use Rattle.image.specs.declared.judged.PagesJudged.{PagesJudged}
+use Rattle.image.specs.Heaps.{Heap, is_free, objects_of}
+use Rattle.image.specs.Images.{Reads, HasBody, IsPageAt, IsTornHome, Holds}
+
+abbrev pub header_of : HeadersRead → Header
+header_of x = x.header
+
+abbrev pub log_header : LogRead → Header
+log_header x = x.header
+
+abbrev pub log_transactions : LogRead → ℕ
+log_transactions x = x.transactions
+
+-- the homes of page records, in their order
+abbrev pub homes_in : List Change → List (Option ℕ)
+homes_in t = map (λ c. Some c.home) t
+
+-- of each position that the transactions take, the home of its page record; none of a commit record
+abbrev pub homes_of : List (List Change) → List (Option ℕ)
+homes_of [] = []
+homes_of (t ∷ ts) = homes_of ts ++ homes_in t ++ None ∷ []
+
+-- those of the positions that are committed
+abbrev pub committed_homes : LogRead → List (Option ℕ)
+committed_homes x = take x.committed x.homes
+
+abbrev pub home_at : LogRead → ℕ → Option ℕ
+home_at x i = slice_index_or (committed_homes x) i None
+
+-- x has the log whose committed transactions are ts
+pub record IsLogOf (ts : List (List Change)) (x : LogRead) : Type 0 where
+  pub committed : x.committed ≡ span ts
+  pub homes : committed_homes x ≡ homes_of ts
+  pub transactions : x.transactions ≡ x.header.transactions + length ts
+
+-- x is what was read of the log of the image
+pub record IsReadOf (n : ℕ) (σ : Image) (x : LogRead) : Type 0 where
+  pub log : List (List Change)
+  pub reads : Reads n σ x.header log
+  pub has : IsLogOf log x
+
+-- x is what was read of the log before position p
+pub record HasRead (σ : Image) (h : Header) (p : ℕ) (x : LogRead) : Type 0 where
+  pub header : x.header ≡ h
+  pub log : List (List Change)
+  pub pages : List Change
+  pub reading : Reading σ h p log pages
+  pub committed : x.committed ≡ span log
+  pub long : length x.homes ≡ LONGEST_LOG
+  pub homes : take p x.homes ≡ homes_of log ++ homes_in pages
+  pub transactions : x.transactions ≡ h.transactions + length log
+
+-- x is what was read of the log to its end
+pub record HasReadAll (σ : Image) (h : Header) (x : LogRead) : Type 0 where
+  pub header : x.header ≡ h
+  pub log : List (List Change)
+  pub reads : ReadsTo σ h log
+  pub has : IsLogOf log x
+
+-- q tells that the page of sector s is not lawful: its home is torn and no committed record has the page, or else it is the page's own fault
+abbrev pub IsFaultOf : Image → List (List Change) → ℕ → Refusal → Type 0
+IsFaultOf σ ts s q = ((q ≡ Torn s) × IsTornHome σ ts s) ⊎ ((q ≡ Unlawful s) × ¬ IsTornHome σ ts s)
+
+-- the same of a home, whatever the log has: no bytes of a home of its sector can be read there
+abbrev pub NoHome : Image → ℕ → Refusal → Type 0
+NoHome σ s q = ((q ≡ Torn s) × (σ s ≡ torn)) ⊎ ((q ≡ Unlawful s) × ((b : List ℕ) × (σ s ≡ payload b) × ((body : List ℕ) → home_bytes s body ≢ b)))
+
+-- what is found of the page of sector s on an image whose log is x: its body, or that it has none; the page, or that none is lawful there
+abbrev pub FindsBody : ℕ → Image → LogRead → ℕ → List ℕ → Type 0
+FindsBody n σ x s body = (r : IsReadOf n σ x) → IsPage x.header.geometry s → HasBody σ r.log s body
+
+abbrev pub FindsNoBody : ℕ → Image → LogRead → ℕ → Refusal → Type 0
+FindsNoBody n σ x s q = (r : IsReadOf n σ x) → IsPage x.header.geometry s → ((body : List ℕ) → ¬ HasBody σ r.log s body) × IsFaultOf σ r.log s q
+
+abbrev pub FindsPage : ℕ → Image → LogRead → ℕ → Page → Type 0
+FindsPage n σ x s p = (r : IsReadOf n σ x) → IsPage x.header.geometry s → IsPageAt σ x.header r.log s p
+
+abbrev pub FindsNoPage : ℕ → Image → LogRead → ℕ → Refusal → Type 0
+FindsNoPage n σ x s q = (r : IsReadOf n σ x) → IsPage x.header.geometry s → ((p : Page) → ¬ IsPageAt σ x.header r.log s p) × IsFaultOf σ r.log s q
+
+-- x is what was judged of an image that holds H
+pub record IsJudgedOf (n : ℕ) (σ : Image) (H : Heap) (x : PagesJudged) : Type 0 where
+  pub read : IsReadOf n σ x.log
+  pub holds : Holds n σ H
+  pub free_pages : x.free_pages ≡ count_by is_free H.pages
+  pub objects : x.objects ≡ sum_by objects_of H.pages
+  pub transactions : x.log.transactions ≡ H.transactions
+  pub root : root_of x.log.header.geometry ≡ H.root

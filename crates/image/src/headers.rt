@@ -1,0 +1,78 @@
+//! The first stage of an opening: the headers are read.
+ghost use Rattle.std.specs.Prelude.{◌≡◌, ◌<◌, ◌≤◌, ◌⊎◌, MatchOption, IfSome, IsNone};
+ghost use Rattle.layout.specs.declared.header.Header.{Header as AHeader};
+ghost use Rattle.image.specs.Headers.{IsHeaderAt, IsHeaderIn, IsHeaderOf};
+ghost use Rattle.image.specs.Looking.{Tells, Finds};
+ghost use Rattle.image.specs.Images.{Judged};
+
+use crate::reading::look;
+use crate::{Off, Refusal};
+use device::Device;
+use layout::Header;
+
+/// The header of a card, as it was read.
+#[derive(Debug, Drop)]
+pub struct HeadersRead {
+    header: Header,
+}
+
+impl HeadersRead {
+    ghost use Rattle.image.specs.Stages.{header_of};
+
+    /// Reads both headers: the valid one with the greater epoch counts.
+    pub fn read<D: Device>(device: &mut D) -> Result<HeadersRead, Refusal>
+        ensures { Finds D.means D.reads device.old device.new
+            (λ x. IsHeaderOf (D.means device.old).count (D.means device.old).current (header_of x))
+            (Judged (D.means device.old).count (D.means device.old).current) result }
+    {
+        match newest(device)? {
+            Some(header) => Ok(HeadersRead { header }),
+            None => Err(Refusal::NoHeader),
+        }
+    }
+
+    // The header, which ends the stage.
+    pub(crate) fn into_header(self) -> Header
+        ensures { result ≡ header_of self }
+    {
+        let HeadersRead { header } = self;
+        header
+    }
+}
+
+// The valid header with the greater epoch, if there is one.
+fn newest<D: Device>(device: &mut D) -> Result<Option<Header>, Off>
+    ensures { Tells D.means D.reads device.old device.new (λ o. MatchOption o
+        ((h : AHeader) → ¬ IsHeaderIn (D.means device.old).count (D.means device.old).current h)
+        (IsHeaderOf (D.means device.old).count (D.means device.old).current)) result }
+{
+    let first = header_at(device, 0)?;
+    let second = header_at(device, 1)?;
+    Ok(newer(first, second))
+}
+
+// The valid header in a header sector, if there is one.
+fn header_at<D: Device>(device: &mut D, sector: u32) -> Result<Option<Header>, Off>
+    requires { sector < 2 }
+    ensures { Tells D.means D.reads device.old device.new (λ o. MatchOption o
+        ((h : AHeader) → ¬ IsHeaderAt (D.means device.old).count (D.means device.old).current sector h)
+        (IsHeaderAt (D.means device.old).count (D.means device.old).current sector)) result }
+{
+    let sectors = device.count();
+    let Some(bytes) = look(device, sector)? else {
+        return Ok(None);
+    };
+    Ok(Header::decode(&bytes).filter(|header| header.is_valid_in(sector, sectors)))
+}
+
+// The one with the greater epoch, if there is one.
+fn newer(first: Option<Header>, second: Option<Header>) -> Option<Header>
+    ensures none { IsNone result → IsNone first × IsNone second }
+    ensures one { IfSome result (λ h. (first ≡ Some h) ⊎ (second ≡ Some h)) }
+    ensures newest { IfSome result (λ h. IfSome first (λ a. a.epoch ≤ h.epoch) × IfSome second (λ b. b.epoch ≤ h.epoch)) }
+{
+    match (first, second) {
+        (Some(a), Some(b)) if a.epoch < b.epoch => Some(b),
+        _ => first.or(second),
+    }
+}

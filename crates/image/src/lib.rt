@@ -1,0 +1,19 @@
+//! What an image of a card holds, and the first stages of an opening: its headers read, its log read, its pages judged.
+#![tactic(auto)]
+
+mod counts;
+mod entry;
+mod headers;
+mod judged;
+mod log;
+mod pages;
+mod reading;
+mod refusal;
+mod tally;
+
+pub use counts::Counts;
+pub use headers::HeadersRead;
+pub use judged::PagesJudged;
+pub use log::LogRead;
+pub use reading::Off;
+pub use refusal::Refusal;

@@ -1,0 +1,184 @@
+//! The second stage of an opening: the log is read.
+ghost use Rattle.std.specs.Prelude.{◌≡◌, ◌≢◌, ℕ, ◌+◌, ◌<◌, ◌≤◌, length, IsTrue, ◌↔◌, MatchOption, slice_index_or, true, Some, None};
+ghost use Rattle.std.specs.Bool.{MatchBool};
+ghost use Rattle.device.specs.Sector.{Image};
+ghost use Rattle.layout.specs.declared.header.Header.{Header as AHeader};
+ghost use Rattle.image.specs.declared.entry.Entry.TheVariants.{Commit};
+ghost use Rattle.image.specs.Headers.{IsHeaderOf, IsLater, FirstLater, NoneLater};
+ghost use Rattle.image.specs.Images.{Judged};
+ghost use Rattle.image.specs.Looking.{Tells, Finds, Looked};
+ghost use Rattle.image.specs.Entries.{IsEntryAt};
+
+use crate::entry::{Entry, entry_at};
+use crate::headers::HeadersRead;
+use crate::reading::look;
+use crate::tally::MOST_SECTORS;
+use crate::{Off, Refusal};
+use device::Device;
+use layout::{Header, shown_epoch};
+
+/// The most positions that a log has.
+const LONGEST_LOG: usize = 64;
+
+/// The log of a card, as it was read.
+#[derive(Debug, Drop)]
+pub struct LogRead {
+    header: Header,
+    // of each position, the home of the page record there; none of a commit record
+    homes: [Option<u32>; LONGEST_LOG],
+    // of each sector, whether a position has its home: of most none has, and they need no search
+    named: [bool; MOST_SECTORS],
+    // the positions before this one are committed
+    committed: u16,
+    transactions: u32,
+    ghost few: { committed ≤ 64 },
+    ghost names: { (i s : ℕ) → slice_index_or homes i None ≡ Some s → IsTrue (slice_index_or named s true) },
+}
+
+impl LogRead {
+    ghost use Rattle.image.specs.Stages.{header_of, log_header, log_transactions, committed_homes, home_at, IsReadOf, HasRead, HasReadAll};
+
+    /// Reads the log under the header that was read.
+    pub fn read<D: Device>(device: &mut D, headers: HeadersRead) -> Result<LogRead, Refusal>
+        ensures { Finds D.means D.reads device.old device.new
+            (λ x. IsHeaderOf (D.means device.old).count (D.means device.old).current (header_of headers)
+            → IsReadOf (D.means device.old).count (D.means device.old).current x)
+            (λ q. IsHeaderOf (D.means device.old).count (D.means device.old).current (header_of headers)
+            → Judged (D.means device.old).count (D.means device.old).current q) result }
+    {
+        let header = headers.into_header();
+        if let Some(sector) = first_later(device, header)? {
+            return Err(Refusal::LaterEpoch { sector });
+        }
+        Ok(LogRead::scan(device, header)?)
+    }
+
+    /// The header under which the log was read.
+    pub fn header(&self) -> Header
+        ensures { result ≡ log_header self.now }
+    {
+        self.header
+    }
+
+    /// The number of the last committed transaction, or else the header's count.
+    pub fn transactions(&self) -> u32
+        ensures { result ≡ log_transactions self.now }
+    {
+        self.transactions // of the last commit
+    }
+
+    /// The position of the last committed record for the page of a sector, if there is one.
+    pub fn record_of(&self, sector: u32) -> Option<usize>
+        ensures { MatchOption result
+            ((i : ℕ) → i < length (committed_homes self.now) → home_at self.now i ≢ Some sector)
+            (λ i. (i < length (committed_homes self.now)) × (home_at self.now i ≡ Some sector)
+            × ((k : ℕ) → i < k → k < length (committed_homes self.now) → home_at self.now k ≢ Some sector)) }
+    {
+        if self.named.get(sector as usize) == Some(&false) {
+            return None;
+        }
+        let committed = &self.homes[..usize::from(self.committed)];
+        committed.iter().rposition(|home| *home == Some(sector))
+    }
+
+    // Reads the log position by position, up to its end.
+    fn scan<D: Device>(device: &mut D, header: Header) -> Result<LogRead, Off>
+        ensures { Tells D.means D.reads device.old device.new (λ x. header.geometry.sectors ≡ (D.means device.old).count
+            → HasReadAll (D.means device.old).current header x) result }
+    {
+        let mut log = LogRead::new(header);
+        for position in 0..header.geometry.log {
+            let entry = entry_at(device, header, position)?;
+            if !log.take_up(position, entry) {
+                return Ok(log);
+            }
+        }
+        Ok(log)
+    }
+
+    // A log of which nothing has been read.
+    fn new(header: Header) -> LogRead
+        ensures { (σ : Image) → HasRead σ header 0 result }
+    {
+        LogRead {
+            header,
+            homes: [None; LONGEST_LOG],
+            named: [false; MOST_SECTORS],
+            committed: 0,
+            transactions: header.transactions,
+        }
+    }
+
+    // Takes up what stands at the next position; false if the log ends before it.
+    fn take_up(&mut self, position: u16, entry: Entry) -> bool
+        requires { position < 64 }
+        ensures { (σ : Image) (h : AHeader) → position < h.geometry.log → HasRead σ h position self.old → IsEntryAt σ h position entry
+            → MatchBool result (HasRead σ h (position + 1) self.new) (HasReadAll σ h self.new) }
+    {
+        match entry {
+            Entry::Page { home } => {
+                name(&mut self.named, home);
+                self.homes[usize::from(position)] = Some(home);
+                true
+            }
+            Entry::Commit { pages, number } => self.commits(position, pages, number),
+            Entry::End => false,
+        }
+    }
+
+    // Takes up a commit record, if it is the one that may stand there.
+    fn commits(&mut self, position: u16, pages: u32, number: u32) -> bool
+        requires { position < 64 }
+        ensures { (σ : Image) (h : AHeader) → position < h.geometry.log → HasRead σ h position self.old → IsEntryAt σ h position (Commit pages number)
+            → MatchBool result (HasRead σ h (position + 1) self.new) (HasReadAll σ h self.new) }
+    {
+        let pending = position.saturating_sub(self.committed);
+        // on wider numbers: none follows the last of 32 bits
+        let next = u64::from(self.transactions) + 1;
+        if pages != u32::from(pending) {
+            return false;
+        }
+        if u64::from(number) != next {
+            return false;
+        }
+        self.homes[usize::from(position)] = None;
+        self.committed = position + 1;
+        self.transactions = number;
+        true
+    }
+}
+
+// Notes that a position has the home in a sector.
+fn name(named: &mut [bool; MOST_SECTORS], sector: u32)
+    ensures noted { IsTrue (slice_index_or named.new sector true) }
+    ensures kept { (s : ℕ) → IsTrue (slice_index_or named.old s true) → IsTrue (slice_index_or named.new s true) }
+{
+    let at = sector as usize;
+    if at < MOST_SECTORS {
+        named[at] = true;
+    }
+}
+
+// The lowest sector of the log that shows an epoch above the header's, if there is one.
+fn first_later<D: Device>(device: &mut D, header: Header) -> Result<Option<u32>, Off>
+    ensures { Tells D.means D.reads device.old device.new (λ o. header.geometry.sectors ≡ (D.means device.old).count → MatchOption o
+        (NoneLater (D.means device.old).current header)
+        (FirstLater (D.means device.old).current header)) result }
+{
+    for sector in 2..header.geometry.root() {
+        if is_later_at(device, header.epoch, sector)? {
+            return Ok(Some(sector));
+        }
+    }
+    Ok(None)
+}
+
+// Whether a sector shows an epoch above this one.
+fn is_later_at<D: Device>(device: &mut D, epoch: u32, sector: u32) -> Result<bool, Off>
+    ensures { Tells D.means D.reads device.old device.new (λ b. sector < (D.means device.old).count → IsTrue b ↔ IsLater epoch ((D.means device.old).current sector)) result }
+{
+    let Some(bytes) = look(device, sector)? else {
+        return Ok(false);
+    };
+    Ok(shown_epoch(&bytes).is_some_and(|shown| shown > epoch))
+}

@@ -1,0 +1,70 @@
+//! The pages of a card, each read where it stands.
+ghost use Rattle.std.specs.Prelude.{◌≡◌, ◌⊎◌, ◌<◌, IsTrue, ◌↔◌, drop};
+ghost use Rattle.device.specs.Sector.{payload};
+ghost use Rattle.layout.specs.Homes.{home_bytes};
+ghost use Rattle.image.specs.Looking.{Finds};
+ghost use Rattle.image.specs.Stages.{NoHome, FindsBody, FindsNoBody, FindsPage, FindsNoPage};
+
+use crate::Refusal;
+use crate::log::LogRead;
+use crate::reading::look;
+use device::{Device, PAYLOAD};
+use layout::{Home, Page};
+
+// The lawful page of a sector.
+pub(crate) fn page_of<D: Device>(
+    device: &mut D,
+    log: &LogRead,
+    sector: u32,
+) -> Result<Page, Refusal>
+    ensures { Finds D.means D.reads device.old device.new
+        (FindsPage (D.means device.old).count (D.means device.old).current log.now sector)
+        (FindsNoPage (D.means device.old).count (D.means device.old).current log.now sector) result }
+{
+    let bytes = page_bytes(device, log, sector)?;
+    let body = match bytes.last_chunk() {
+        Some(body) => body,
+        None => return Err(Refusal::Unlawful { sector }),
+    };
+    let root = sector == log.header().geometry.root();
+    let page = Page::decode_lawful(body, root);
+    page.ok_or(Refusal::Unlawful { sector })
+}
+
+// The sector in which the body of a page stands, in its last 48 bytes: that of its last committed record, or else its home.
+pub(crate) fn page_bytes<D: Device>(
+    device: &mut D,
+    log: &LogRead,
+    sector: u32,
+) -> Result<[u8; PAYLOAD], Refusal>
+    ensures { Finds D.means D.reads device.old device.new
+        (λ b. FindsBody (D.means device.old).count (D.means device.old).current log.now sector (drop 12 b))
+        (FindsNoBody (D.means device.old).count (D.means device.old).current log.now sector) result }
+{
+    match log.record_of(sector) {
+        Some(position) => look(device, 2 + position as u32)?.ok_or(Refusal::Torn { sector }),
+        None => home_at(device, sector),
+    }
+}
+
+// The bytes of the home in a sector.
+fn home_at<D: Device>(device: &mut D, sector: u32) -> Result<[u8; PAYLOAD], Refusal>
+    ensures { Finds D.means D.reads device.old device.new
+        (λ b. ((D.means device.old).current sector ≡ payload b) × (home_bytes sector (drop 12 b) ≡ b))
+        (λ q. sector < (D.means device.old).count → NoHome (D.means device.old).current sector q) result }
+{
+    let Some(bytes) = look(device, sector)? else {
+        return Err(Refusal::Torn { sector });
+    };
+    if !is_home_of(&bytes, sector) {
+        return Err(Refusal::Unlawful { sector });
+    }
+    Ok(bytes)
+}
+
+// Whether these are the bytes of the home of a page, with whatever body.
+fn is_home_of(bytes: &[u8; PAYLOAD], sector: u32) -> bool
+    ensures { IsTrue result ↔ (home_bytes sector (drop 12 bytes.now) ≡ bytes.now) }
+{
+    Home::decode(bytes).is_some_and(|home| home.sector == sector)
+}

@@ -1,0 +1,90 @@
+//! The check for programs in C: a static library over `audit`.
+#![tactic(auto)]
+
+ghost use Rattle.std.specs.Prelude.{◌≡◌, ◌++◌, drop, Err, Result};
+ghost use Rattle.image.specs.declared.counts.Counts.{Counts as Numbers};
+ghost use Rattle.image.specs.declared.refusal.Refusal.{Refusal as Reason};
+ghost use Rattle.media.specs.Cards.{memory};
+ghost use Rattle.audit_c.specs.Told.{number_of, values_of, Unfit, ChecksRows};
+
+use audit::check;
+use image::{Counts, Refusal};
+use media::RowImage;
+
+/// `check` of a row image for C:
+/// `uint32_t goarfleki_check(uint8_t *image, size_t, uint8_t *marks, size_t, uint16_t *numbers, size_t, uint64_t *told, size_t)`.
+/// Puts the transactions, the free pages, the objects and those that can be reached into the first four of `told`, and returns 0; or puts
+/// the values of the refusal there, and 0 where it has fewer, and returns its number.
+#[unsafe(no_mangle)]
+pub extern "C" fn goarfleki_check(
+    image: &mut [u8],
+    marks: &mut [u8],
+    numbers: &mut [u16],
+    told: &mut [u64],
+) -> u32
+    ensures unfit { Unfit image.old told.old → (result ≡ 18) × (marks.new ≡ marks.old) × (numbers.new ≡ numbers.old) × (told.new ≡ told.old) }
+    ensures checked { ¬ Unfit image.old told.old → (r : Result Numbers Reason) × ChecksRows image.old marks.old marks.new numbers.old numbers.new r
+        × (result ≡ number_of r) × (told.new ≡ values_of r ++ drop 4 told.old) }
+{
+    if told.len() < 4 {
+        return u32::from(Refusal::ShortMemory.number());
+    }
+    let Ok(mut rows) = RowImage::new(image) else {
+        return u32::from(Refusal::ShortMemory.number());
+    };
+    let answer = check_rows(&mut rows, marks, numbers);
+    told[..4].copy_from_slice(&values_of(answer));
+    number_of(answer)
+}
+
+// The check of a row image, which leaves it as it is.
+fn check_rows(
+    rows: &mut RowImage<'_>,
+    marks: &mut [u8],
+    numbers: &mut [u16],
+) -> Result<Counts, Refusal>
+    ensures same { rows.new ≡ rows.old }
+    ensures checked { ChecksRows (memory rows.old) marks.old marks.new numbers.old numbers.new result }
+{
+    check(rows, marks, numbers)
+}
+
+// The number that is returned for an answer.
+fn number_of(answer: Result<Counts, Refusal>) -> u32
+    ensures { result ≡ number_of answer }
+{
+    match answer {
+        Ok(_) => 0,
+        Err(refusal) => u32::from(refusal.number()),
+    }
+}
+
+// The values that are told of an answer.
+fn values_of(answer: Result<Counts, Refusal>) -> [u64; 4]
+    ensures { result ≡ values_of answer }
+{
+    match answer {
+        Ok(counts) => {
+            let Counts {
+                transactions,
+                free_pages,
+                objects,
+                reachable,
+            } = counts;
+            [transactions, free_pages, objects, reachable].map(u64::from)
+        }
+        Err(refusal) => values_of_refusal(refusal),
+    }
+}
+
+// The values of a refusal, and 0 where it has fewer.
+fn values_of_refusal(refusal: Refusal) -> [u64; 4]
+    ensures { result ≡ values_of (Err refusal) }
+{
+    match refusal {
+        Refusal::Torn { sector } | Refusal::LaterEpoch { sector } | Refusal::Unlawful { sector } =>
+            [u64::from(sector), 0, 0, 0],
+        Refusal::Dangling { sector, word } => [u64::from(sector), word as u64, 0, 0],
+        _ => [0; 4],
+    }
+}

@@ -1,1 +1,2 @@
 pub mod Lines
+mod Cards

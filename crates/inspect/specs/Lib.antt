@@ -1,1 +1,3 @@
 pub mod Reports
+pub mod HeapTexts
+pub mod Cards

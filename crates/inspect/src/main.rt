@@ -1,9 +1,13 @@
 //! inspect IMAGE: tells what is on a card, sector by sector, and gives a verdict.
 #![tactic(auto)]
 
+mod card;
+mod heap;
 mod report;
 
 use anyhow::{anyhow, bail};
+use card::check_image;
+use heap::HeapReport;
 use report::Report;
 use std::process::ExitCode;
 use std::{env, fs, io};
@@ -27,9 +31,11 @@ fn read_image(rt: &HostRuntime, path: &str) -> anyhow::Result<Vec<u8>> {
 fn inspect(rt: &HostRuntime, path: &str) -> anyhow::Result<()> {
     let image = read_image(rt, path)?;
     let mut table = [Condition::Torn; SECTORS];
-    let count = survey_image(image, &mut table)?;
+    let count = survey_image(image.clone()?, &mut table)?;
     let report = Report::new(&table[..count]);
+    let heap = HeapReport(check_image(image)?);
     println!(rt; "{report}")?;
+    println!(rt; "{heap}")?;
     Ok(())
 }
 

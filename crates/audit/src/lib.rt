@@ -5,7 +5,7 @@ ghost use Rattle.std.specs.Prelude.{◌≡◌, ◌≤◌, length, replicate};
 ghost use Rattle.audit.specs.Checks.{wanted, Checks};
 ghost use Rattle.image.specs.Heaps.{Heap, Counted};
 ghost use Rattle.image.specs.Images.{Holds, Judged};
-ghost use Rattle.image.specs.Looking.{Looked, Finds};
+ghost use Rattle.image.specs.Looking.{Looked, OnlyReads, Finds};
 ghost use Rattle.image.specs.Stages.{IsJudgedOf};
 
 mod walk;
@@ -13,11 +13,9 @@ mod zeroed;
 
 use device::Device;
 use image::{Counts, HeadersRead, LogRead, PagesJudged, Refusal};
+use layout::HANDLES;
 use walk::count_reachable;
 use zeroed::Zeroed;
-
-// How many handles a sector has, one for each slot that a page may have.
-const HANDLES: usize = 16;
 
 /// Judges what a card holds now, and counts it. It wants 16 marks and 16 numbers of the caller's for each sector of the device; what they
 /// held has no influence, and they are zero afterwards, whatever the answer, unless they are too few.
@@ -27,10 +25,11 @@ pub fn check<D: Device>(
     numbers: &mut [u16],
 ) -> Result<Counts, Refusal>
     ensures looked { Looked D.means D.reads device.old device.new }
+    ensures stays { OnlyReads (D.means device.old) (D.means device.new) }
     ensures checked { Checks device.old device.new (D.means device.old) (D.means device.new)
         marks.old marks.new numbers.old numbers.new result }
 {
-    let wanted = HANDLES * device.count() as usize;
+    let wanted = HANDLES as usize * device.count() as usize;
     if marks.len() < wanted || numbers.len() < wanted {
         return Err(Refusal::ShortMemory);
     }

@@ -4,7 +4,7 @@ use media::{ROW, RowImage};
 
 const SECTORS: usize = 14;
 
-const WANTED: usize = HANDLES * SECTORS;
+const WANTED: usize = HANDLES as usize * SECTORS;
 
 // The places of a payload that are not zero: in sector 1 the header of 14 sectors with a log of 9, after 5 transactions; in sector 11 the
 // root page with a reference to slot 1 of sector 12, and there slots 0, 1 and 3 of two words, of which the last two refer to each other.

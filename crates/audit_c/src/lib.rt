@@ -1,52 +1,58 @@
 //! The check for programs in C: a static library over `audit`.
 #![tactic(auto)]
 
-ghost use Rattle.std.specs.Prelude.{◌≡◌, ◌++◌, drop, Err, Result};
+ghost use Rattle.std.specs.Prelude.{◌≡◌, ◌%◌, ◌++◌, length, drop, Err, Result};
 ghost use Rattle.image.specs.declared.counts.Counts.{Counts as Numbers};
 ghost use Rattle.image.specs.declared.refusal.Refusal.{Refusal as Reason};
-ghost use Rattle.media.specs.Cards.{memory};
-ghost use Rattle.audit_c.specs.Told.{number_of, values_of, Unfit, ChecksRows};
+ghost use Rattle.audit_c.specs.Told.{number_of, values_of, Unfit, ChecksImage};
 
 use audit::check;
 use image::{Counts, Refusal};
-use media::RowImage;
+use layout::MOST_SECTORS;
+use media::{ROW, RowImage};
+
+// The most bytes that a card image has.
+const LONGEST: usize = MOST_SECTORS * ROW;
 
 /// `check` of a row image for C:
-/// `uint32_t goarfleki_check(uint8_t *image, size_t, uint8_t *marks, size_t, uint16_t *numbers, size_t, uint64_t *told, size_t)`.
+/// `uint32_t goarfleki_check(const uint8_t *image, size_t, uint8_t *marks, size_t, uint16_t *numbers, size_t, uint64_t *told, size_t)`.
 /// Puts the transactions, the free pages, the objects and those that can be reached into the first four of `told`, and returns 0; or puts
 /// the values of the refusal there, and 0 where it has fewer, and returns its number.
 #[unsafe(no_mangle)]
 pub extern "C" fn goarfleki_check(
-    image: &mut [u8],
+    image: &[u8],
     marks: &mut [u8],
     numbers: &mut [u16],
     told: &mut [u64],
 ) -> u32
-    ensures unfit { Unfit image.old told.old → (result ≡ 18) × (marks.new ≡ marks.old) × (numbers.new ≡ numbers.old) × (told.new ≡ told.old) }
-    ensures checked { ¬ Unfit image.old told.old → (r : Result Numbers Reason) × ChecksRows image.old marks.old marks.new numbers.old numbers.new r
+    ensures unfit { Unfit image.now told.old
+        → (result ≡ 18) × (marks.new ≡ marks.old) × (numbers.new ≡ numbers.old) × (told.new ≡ told.old) }
+    ensures checked { ¬ Unfit image.now told.old
+        → (r : Result Numbers Reason) × ChecksImage image.now marks.old marks.new numbers.old numbers.new r
         × (result ≡ number_of r) × (told.new ≡ values_of r ++ drop 4 told.old) }
 {
-    if told.len() < 4 {
+    if told.len() < 4 || !image.len().is_multiple_of(ROW) {
         return u32::from(Refusal::ShortMemory.number());
     }
-    let Ok(mut rows) = RowImage::new(image) else {
-        return u32::from(Refusal::ShortMemory.number());
-    };
-    let answer = check_rows(&mut rows, marks, numbers);
+    let answer = check_copy(image, marks, numbers);
     told[..4].copy_from_slice(&values_of(answer));
     number_of(answer)
 }
 
-// The check of a row image, which leaves it as it is.
-fn check_rows(
-    rows: &mut RowImage<'_>,
-    marks: &mut [u8],
-    numbers: &mut [u16],
-) -> Result<Counts, Refusal>
-    ensures same { rows.new ≡ rows.old }
-    ensures checked { ChecksRows (memory rows.old) marks.old marks.new numbers.old numbers.new result }
+// The check of a card image that is only read: a row image is made over a copy.
+fn check_copy(image: &[u8], marks: &mut [u8], numbers: &mut [u16]) -> Result<Counts, Refusal>
+    requires { length image.now % 64 ≡ 0 }
+    ensures { ChecksImage image.now marks.old marks.new numbers.old numbers.new result }
 {
-    check(rows, marks, numbers)
+    let mut copy = [0; LONGEST];
+    let Some(rows) = copy.get_mut(..image.len()) else {
+        return Err(Refusal::NoHeader); // so many sectors have no valid header
+    };
+    rows.copy_from_slice(image);
+    match RowImage::new(rows) {
+        Ok(mut card) => check(&mut card, marks, numbers),
+        Err(_) => unreachable!(),
+    }
 }
 
 // The number that is returned for an answer.
@@ -81,10 +87,7 @@ fn values_of(answer: Result<Counts, Refusal>) -> [u64; 4]
 fn values_of_refusal(refusal: Refusal) -> [u64; 4]
     ensures { result ≡ values_of (Err refusal) }
 {
-    match refusal {
-        Refusal::Torn { sector } | Refusal::LaterEpoch { sector } | Refusal::Unlawful { sector } =>
-            [u64::from(sector), 0, 0, 0],
-        Refusal::Dangling { sector, word } => [u64::from(sector), word as u64, 0, 0],
-        _ => [0; 4],
-    }
+    let sector = refusal.sector().unwrap_or(0);
+    let word = refusal.word().unwrap_or(0);
+    [u64::from(sector), word as u64, 0, 0]
 }

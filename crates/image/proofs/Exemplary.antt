@@ -76,7 +76,7 @@ examples = record {
   checksums = worked;
   four_words = (record { some = omega arith; holds = omega arith; least = least_four }, refl);
   six_words = (record { some = omega arith; holds = omega arith; least = least_six }, refl);
-  handle = (refl, refl);
+  handle = (refl, refl, refl);
   head_word = refl;
   greater_epoch = greater;
   other_torn = unread;

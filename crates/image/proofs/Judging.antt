@@ -1,9 +1,11 @@
 -- The pages as they are judged, one after another.
 -- Assumes nothing.
-use Rattle.std.proofs.Common.{◌≡◌, ℕ, ◌+◌, ◌-◌, ◌<◌, ◌≤◌, List, [], ◌∷◌, ◌++◌, length, Some, None, Option, MatchOption, sym, refl, ap, ◌∙◌, subst, inl, inr, arith}
-use Rattle.std.specs.Prelude.{IfSome}
+use Rattle.std.proofs.Common.{◌≡◌, ℕ, ◌+◌, ◌-◌, ◌<◌, ◌≤◌, List, [], ◌∷◌, ◌++◌, length, Some, None, Option, MatchOption, Ok, Err, Result, sym, refl, ap, ◌∙◌, subst, inl, inr, arith}
+use Rattle.std.specs.Prelude.{◌↔◌}
 use Rattle.std.proofs.lemmas.List.{get_or_append_left, get_or_push, length_push}
 use Rattle.std.proofs.lemmas.Bool.{cases_lt}
+use Rattle.device.specs.Faults.{Answer}
+use Rattle.device.specs.Rules.{Meaning}
 use Rattle.device.specs.Sector.{Image}
 use Rattle.layout.specs.declared.header.Header.{Header}
 use Rattle.layout.specs.declared.page.Page.{Page}
@@ -17,7 +19,8 @@ use Rattle.image.specs.declared.judged.PagesJudged.{PagesJudged}
 use Rattle.image.specs.Logs.{Change}
 use Rattle.image.specs.Heaps.{Heap, HasPage, page_of, free_page, DanglesIn, Dangles, NoneDangles, FirstDangling}
 use Rattle.image.specs.Images.{HasBody, IsPageAt, Shows, FirstFault, Judged}
-use Rattle.image.specs.Stages.{IsReadOf, IsFaultOf, FindsBody, FindsNoBody, FindsPage, FindsNoPage, IsJudgedOf}
+use Rattle.image.specs.Stages.{IsReadOf, IsFaultOf, FindsBody, FindsNoBody, FindsPage, FindsNoPage, FindsShown, FindsNoneShown, IsJudgedOf, TellsPageAgain}
+use Rattle.image.specs.Looking.{Finds}
 use Rattle.image.specs.Tallies.{page_at, IsTallyOf, IsTallyOfHeap}
 use Rattle.image.proofs.Single.{header_one, log_one, body_one, page_one, page_inside, inside_page}
 
@@ -92,22 +95,22 @@ module _ (n : ℕ) (σ : Image) (x : LogRead) (r : IsReadOf n σ x) where
       let f : a.log ≡ r.log = log_one n σ _ _ _ _ e a.read.log r.reads.log in
       (r.has.transactions ∙ sym (a.transactions ∙ cc (e, f)), sym (a.root ∙ ap (λ (h : Header). root_of h.geometry) e))
 
-  -- the page that is read is the heap's
-  pub page_is : (H : Heap) (a : Shows n σ H) (s : ℕ) (p : Page) → IsPage x.header.geometry s → FindsPage n σ x s p → p ≡ page_of H s
-  page_is H a s p inside f =
+  -- what the image has as the body of a page is the body of the heap's
+  shown_body : (H : Heap) → Shows n σ H → (s : ℕ) → IsPage x.header.geometry s → Shaped (page_of H s) × HasBody σ r.log s (body_bytes (page_of H s))
+  shown_body H a s inside =
       let e = header_one n σ x.header a.header r.reads.header a.read.header in
       let g = log_one n σ _ _ _ _ e r.reads.log a.read.log in
-      let y = a.pages s (subst (λ (h : Header). IsPage h.geometry s) e inside) in
-      let z = subst (λ (h : Header). IsPageAt σ h a.log s (page_of H s)) (sym e) y in
-      page_one σ x.header r.log s p (page_of H s) (f r inside) (subst (λ (us : List (List Change)). IsPageAt σ x.header us s (page_of H s)) (sym g) z)
+      let p = a.pages s (subst (λ (h : Header). IsPage h.geometry s) e inside) in
+      (p.0.shaped, subst (λ (us : List (List Change)). HasBody σ us s (body_bytes (page_of H s))) (sym g) p.1)
 
-  pub no_page_shown : (H : Heap) → Shows n σ H → (s : ℕ) (q : Refusal) → IsPage x.header.geometry s → FindsNoPage n σ x s q → ⊥
-  no_page_shown H a s q inside f =
-      let e = header_one n σ x.header a.header r.reads.header a.read.header in
-      let g = log_one n σ _ _ _ _ e r.reads.log a.read.log in
-      let y = a.pages s (subst (λ (h : Header). IsPage h.geometry s) e inside) in
-      let z = subst (λ (h : Header). IsPageAt σ h a.log s (page_of H s)) (sym e) y in
-      (f r inside).0 (page_of H s) (subst (λ (us : List (List Change)). IsPageAt σ x.header us s (page_of H s)) (sym g) z)
+  pub shown_page : (H : Heap) → Shows n σ H → (s : ℕ) → IsPage x.header.geometry s → (body : List ℕ) (o : Option Page) → FindsBody n σ x s body
+      → ((p : Page) → Shaped p → body_bytes p ≡ body → o ≡ Some p) → o ≡ Some (page_of H s)
+  shown_page H a s inside body o f only =
+      let p = shown_body H a s inside in
+      only (page_of H s) p.0 (body_one σ x.header r.log s _ _ p.1 (f r inside))
+
+  pub body_shown : (H : Heap) → Shows n σ H → (s : ℕ) (q : Refusal) → IsPage x.header.geometry s → FindsNoBody n σ x s q → ⊥
+  body_shown H a s q inside f = (f r inside).0 (body_bytes (page_of H s)) (shown_body H a s inside).1
 
   -- no data word of the pages before sector s dangles
   abbrev pub NoneBefore : Tally → ℕ → Type 0
@@ -119,21 +122,21 @@ module _ (n : ℕ) (σ : Image) (x : LogRead) (r : IsReadOf n σ x) where
       let root : H.root ≡ root_of x.header.geometry = a.root ∙ ap (λ (g : Header). root_of g.geometry) f in
       omega (arith, h.0)
 
-  pub none_more : (t : Tally) (s : ℕ) (p : Page) → IsPage x.header.geometry s → FindsPage n σ x s p → ((H : Heap) → IsTallyOfHeap H t → (j : ℕ) → DanglesIn H p j → ⊥)
+  pub none_more : (t : Tally) (s : ℕ) (p : Page) → IsPage x.header.geometry s → FindsShown n σ x s p → ((H : Heap) → IsTallyOfHeap H t → (j : ℕ) → DanglesIn H p j → ⊥)
       → NoneBefore t s → NoneBefore t (s + 1)
   none_more t s p inside f none before H a y u k h l d = elim (cases_lt u s) [
     | inl m ↦ before H a y u k h m d
     | inr m ↦
         let e : u ≡ s = omega arith in
-        let q = page_is H a s p inside f in
+        let q = f r inside H a in
         none H y k (subst (λ (z : Page). DanglesIn H z k) (sym q) (subst (λ (v : ℕ). Dangles H v k) e d))
   ]
 
-  pub first_found : (t : Tally) (s j : ℕ) (p : Page) → IsPage x.header.geometry s → FindsPage n σ x s p
+  pub first_found : (t : Tally) (s j : ℕ) (p : Page) → IsPage x.header.geometry s → FindsShown n σ x s p
       → ((H : Heap) → IsTallyOfHeap H t → DanglesIn H p j × ((k : ℕ) → k < j → DanglesIn H p k → ⊥))
       → NoneBefore t s → (H : Heap) → Shows n σ H → IsTallyOfHeap H t → FirstDangling H s j
   first_found t s j p inside f here before H a y =
-      let q = page_is H a s p inside f in
+      let q = f r inside H a in
       let d = here H y in
       record {
         page = inside_page n σ H a s (subst (λ (h : Header). IsPage h.geometry s) (header_one n σ x.header a.header r.reads.header a.read.header) inside);
@@ -148,39 +151,37 @@ module _ (n : ℕ) (σ : Image) (x : LogRead) (r : IsReadOf n σ x) where
       let z : x.header.geometry.sectors ≡ n = r.reads.header.valid.0.0 in
       before H a y u k h (omega (arith, a.sectors))
 
--- of an image whose pages were judged
-module _ (n : ℕ) (σ : Image) (H : Heap) (y : PagesJudged) (j : IsJudgedOf n σ H y) where
-  pub judged_inside : (s : ℕ) → HasPage H s → IsPage y.log.header.geometry s
-  judged_inside s h =
-      subst (λ (g : Header). IsPage g.geometry s) (header_one n σ j.holds.shows.header y.log.header j.holds.shows.read.header j.read.reads.header) (page_inside n σ H j.holds.shows s h)
-
-  pub judged_page : (s : ℕ) → HasPage H s → (body : List ℕ) (o : Option Page) → FindsBody n σ y.log s body
-      → IfSome o (λ p. Shaped p × (body_bytes p ≡ body)) → ((p : Page) → Shaped p → body_bytes p ≡ body → o ≡ Some p) → o ≡ Some (page_of H s)
-  judged_page s h body o f found only =
-      let inside = judged_inside s h in
-      let e = header_one n σ y.log.header j.holds.shows.header j.read.reads.header j.holds.shows.read.header in
-      let g = log_one n σ _ _ _ _ e j.read.reads.log j.holds.shows.read.log in
-      let p = j.holds.shows.pages s (page_inside n σ H j.holds.shows s h) in
-      let b = subst (λ (us : List (List Change)). HasBody σ us s body) g (f j.read inside) in
-      only (page_of H s) p.0.shaped (body_one σ j.holds.shows.header j.holds.shows.log s _ _ p.1 b)
-
 no_option : {p : Page} → ◌≡◌ {A = Option Page} None (Some p) → ⊥
 no_option e = cc
 
 one_option : {p q : Page} → Some p ≡ Some q → p ≡ q
 one_option e = cc
 
--- so each of its pages is found again, and a sector where none is has none
-module _ (n : ℕ) (σ : Image) (y : PagesJudged) (s : ℕ) where
-  pub judged_finds : (body : List ℕ) (o : Option Page) → FindsBody n σ y.log s body
-      → IfSome o (λ p. Shaped p × (body_bytes p ≡ body)) → ((p : Page) → Shaped p → body_bytes p ≡ body → o ≡ Some p)
-      → MatchOption o ((H : Heap) → IsJudgedOf n σ H y → HasPage H s → ⊥) (λ p. (H : Heap) → IsJudgedOf n σ H y → HasPage H s → p ≡ page_of H s)
-  judged_finds body None f found only = λ H j h. no_option (judged_page n σ H y j s h body None f found only)
-  judged_finds body (Some p) f found only = λ H j h. one_option (judged_page n σ H y j s h body (Some p) f found only)
+-- the page with the body that was found is that of the heap
+module _ (n : ℕ) (σ : Image) (x : LogRead) (s : ℕ) where
+  pub shown_finds : (body : List ℕ) (o : Option Page) → FindsBody n σ x s body → ((p : Page) → Shaped p → body_bytes p ≡ body → o ≡ Some p)
+      → MatchOption o (FindsNoneShown n σ x s) (FindsShown n σ x s)
+  shown_finds body None f only = λ r i H a. no_option (shown_page n σ x r H a s i body None f only)
+  shown_finds body (Some p) f only = λ r i H a. one_option (shown_page n σ x r H a s i body (Some p) f only)
 
-  pub judged_none : (q : Refusal) → FindsNoBody n σ y.log s q → (H : Heap) → IsJudgedOf n σ H y → HasPage H s → ⊥
-  judged_none q f H j h =
-      let e = header_one n σ y.log.header j.holds.shows.header j.read.reads.header j.holds.shows.read.header in
-      let g = log_one n σ _ _ _ _ e j.read.reads.log j.holds.shows.read.log in
-      let p = j.holds.shows.pages s (page_inside n σ H j.holds.shows s h) in
-      (f j.read (judged_inside n σ H y j s h)).0 _ (subst (λ (us : List (List Change)). HasBody σ us s (body_bytes (page_of H s))) (sym g) p.1)
+-- of an image whose pages were judged
+module _ (n : ℕ) (σ : Image) (y : PagesJudged) (s : ℕ) (H : Heap) (j : IsJudgedOf n σ H y) where
+  same_division : j.holds.shows.header ≡ y.log.header
+  same_division = header_one n σ j.holds.shows.header y.log.header j.holds.shows.read.header j.read.reads.header
+
+  -- the heap's pages have their homes where the geometry says
+  pub judged_inside : IsPage y.log.header.geometry s ↔ HasPage H s
+  judged_inside = (
+    λ i. inside_page n σ H j.holds.shows s (subst (λ (h : Header). IsPage h.geometry s) (sym same_division) i),
+    λ h. subst (λ (g : Header). IsPage g.geometry s) same_division (page_inside n σ H j.holds.shows s h),
+  )
+
+-- so the page that is read again is the heap's
+module _ {D : Type 0} (Means : D → Meaning) (ReadMade : D → ℕ → List ℕ → List ℕ → Answer → D → Type 0) (d d' : D) (y : PagesJudged) (s : ℕ) where
+  pub told_again : (r : Result Page Refusal) → IsPage y.log.header.geometry s
+      → Finds Means ReadMade d d' (FindsShown (Means d).count (Means d).current y.log s) (λ q. FindsNoneShown (Means d).count (Means d).current y.log s) r
+      → TellsPageAgain Means ReadMade d d' y s r
+  told_again (Ok p) i f =
+      (f.0, (f.1.0, λ H j. ((judged_inside (Means d).count (Means d).current y s H j).0 i, f.1.1 j.read i H j.holds.shows)))
+  told_again (Err q) i (l, inl x) = (l, inl x)
+  told_again (Err q) i (l, inr x) = (l, inr (λ H j. absurd (x.1 j.read i H j.holds.shows)))

@@ -13,7 +13,7 @@ use Rattle.layout.specs.Bodies.{marks}
 use Rattle.layout.specs.Slots.{HasBit}
 use Rattle.layout.proofs.Bits.{used_bit, bit_used, no_bit}
 use Rattle.image.specs.declared.tally.Tally.{Tally}
-use Rattle.image.specs.declared.tally.TheConstants.{MOST_SECTORS}
+use Rattle.layout.specs.declared.geometry.TheConstants.{MOST_SECTORS}
 use Rattle.image.specs.Heaps.{Heap, HasPage, page_of, HasObject, free_page, is_free, objects_of}
 use Rattle.image.specs.Tallies.{IsTallyOf, IsTallyOfHeap}
 

@@ -1,11 +1,12 @@
 -- Worked examples about the definitions of a card, as one table. An image is any that fits what an example says of it.
 -- Assumes nothing.
-use Rattle.std.specs.Prelude.{◌≡◌, ℕ, ◌+◌, ◌/◌, ◌%◌, ◌^◌, ◌<◌, true, false, [], ◌∷◌}
+use Rattle.std.specs.Prelude.{◌≡◌, ℕ, ◌+◌, ◌^◌, ◌<◌, true, false, [], ◌∷◌}
 use Rattle.crc32c.specs.Examples.{WorkedExamples as ChecksumExamples}
 use Rattle.device.specs.Sector.{payload, torn, Image}
 use Rattle.layout.specs.declared.class.Class.TheVariants.{Two, Five, Ten}
 use Rattle.layout.specs.declared.header.Header.{Header}
 use Rattle.layout.specs.Classes.{code_of, Smallest}
+use Rattle.layout.specs.Handles.{handle_of, sector_of, slot_of}
 use Rattle.layout.specs.Bodies.{marks}
 use Rattle.layout.specs.Records.{commit_record_bytes}
 use Rattle.image.specs.Headers.{IsHeaderAt, IsHeaderOf}
@@ -35,8 +36,8 @@ pub record WorkedExamples : Type 0 where
   -- four words take class 4, six words class 5
   pub four_words : Smallest 4 Five × (code_of Five ≡ 4)
   pub six_words : Smallest 6 Ten × (code_of Ten ≡ 5)
-  -- handle 192 is slot 0 of sector 12
-  pub handle : (192 / 16 ≡ 12) × (192 % 16 ≡ 0)
+  -- slot 0 of sector 12 has handle 192
+  pub handle : ((handle_of 12 0).0 ≡ 192) × (sector_of (handle_of 12 0) ≡ 12) × (slot_of (handle_of 12 0) ≡ 0)
   -- class 2 with slots 0 and 1 used has head word 2051
   pub head_word : marks (true ∷ true ∷ false ∷ false ∷ false ∷ false ∷ false ∷ false ∷ false ∷ false ∷ []) (code_of Two) ≡ 2051
   -- epoch 4 in sector 0 and 5 in sector 1: 5

@@ -1,6 +1,6 @@
 -- A heap: pages with objects that refer to one another.
 -- Assumes nothing.
-use Rattle.std.specs.Prelude.{◌≡◌, ◌≢◌, ℕ, ◌+◌, ◌-◌, ◌/◌, ◌%◌, ◌<◌, ◌≤◌, Bool, true, false, ◌↔◌, List, length, replicate, count_by, slice_index_or, ◌==◌}
+use Rattle.std.specs.Prelude.{◌≡◌, ◌≢◌, ℕ, ◌+◌, ◌-◌, ◌<◌, ◌≤◌, Bool, true, false, ◌↔◌, List, length, replicate, count_by, slice_index_or, ◌==◌}
 use Rattle.std.specs.List.{AllPairs, Contains, sum_by}
 use Rattle.layout.specs.declared.class.Class.{Class}
 use Rattle.layout.specs.declared.class.Class.TheVariants.{Free}
@@ -8,6 +8,7 @@ use Rattle.layout.specs.declared.handle.Handle.{Handle}
 use Rattle.layout.specs.declared.word.Word.TheVariants.{Number, Reference}
 use Rattle.layout.specs.declared.page.Page.{Page}
 use Rattle.layout.specs.Classes.{Takes}
+use Rattle.layout.specs.Handles.{sector_of, slot_of}
 use Rattle.layout.specs.Pages.{IsUsed, word_at, Lawful}
 use Rattle.image.specs.declared.counts.Counts.{Counts}
 
@@ -29,7 +30,7 @@ page_of H s = slice_index_or H.pages (s - H.root) free_page
 
 -- there is an object at the handle: in the page of its sector, in a used slot
 abbrev pub HasObject : Heap → Handle → Type 0
-HasObject H h = HasPage H (h.0 / 16) × IsUsed (page_of H (h.0 / 16)) (h.0 % 16)
+HasObject H h = HasPage H (sector_of h) × IsUsed (page_of H (sector_of h)) (slot_of h)
 
 -- data word j of a page refers to h
 abbrev pub RefersTo : Page → ℕ → Handle → Type 0
@@ -57,8 +58,8 @@ pub record FirstDangling (H : Heap) (s j : ℕ) : Type 0 where
 -- a root refers to the object, or an object does that can be reached
 pub data Reaches (H : Heap) : Handle → Type 0 where
   root : (j : ℕ) (h : Handle) → RefersTo (page_of H H.root) j h → Reaches H h
-  object : (g : Handle) (j : ℕ) (h : Handle) → Reaches H g → Takes (page_of H (g.0 / 16)).class (g.0 % 16) j
-      → RefersTo (page_of H (g.0 / 16)) j h → Reaches H h
+  object : (g : Handle) (j : ℕ) (h : Handle) → Reaches H g → Takes (page_of H (sector_of g)).class (slot_of g) j
+      → RefersTo (page_of H (sector_of g)) j h → Reaches H h
 
 -- n is the number of objects that can be reached: they are listed, each once
 pub record CountsReached (H : Heap) (n : ℕ) : Type 0 where

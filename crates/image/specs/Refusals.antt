@@ -1,12 +1,22 @@
 -- The number that each refusal goes by, and its values: where it has them, the sector and the data word.
 -- Assumes nothing.
-use Rattle.std.specs.Prelude.{ℕ, List, [], ◌∷◌}
+use Rattle.std.specs.Prelude.{ℕ, List, [], ◌∷◌, Option, Some, None}
 use Rattle.image.specs.declared.refusal.Refusal.{Refusal}
 use Rattle.image.specs.declared.refusal.Refusal.TheVariants.{Off, NoSector, Torn, Shut, TransactionOpen, WrongTicket, OutOfRange, NoObject, Referred, NoRoom, NinthPage, LastNumber, BadGeometry, NoHeader, LaterEpoch, Unlawful, Dangling, ShortMemory}
 
 pub record Told : Type 0 where
   pub number : ℕ
   pub values : List ℕ
+
+-- of the values, the sector and the data word, where they are told
+abbrev pub sector_told : List ℕ → Option ℕ
+sector_told [] = None
+sector_told (s ∷ vs) = Some s
+
+abbrev pub word_told : List ℕ → Option ℕ
+word_told [] = None
+word_told (s ∷ []) = None
+word_told (s ∷ w ∷ vs) = Some w
 
 abbrev pub tells : ℕ → List ℕ → Told
 tells n vs = record { number = n; values = vs }

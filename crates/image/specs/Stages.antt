@@ -1,22 +1,26 @@
 -- What the stages of an opening know of an image.
 -- Assumes nothing.
-use Rattle.std.specs.Prelude.{◌≡◌, ◌≢◌, ℕ, ◌+◌, ◌⊎◌, List, [], ◌∷◌, ◌++◌, length, map, take, count_by, slice_index_or, Option, Some, None}
+use Rattle.std.specs.Prelude.{◌≡◌, ◌≢◌, ℕ, ◌+◌, ◌⊎◌, List, [], ◌∷◌, ◌++◌, length, map, take, count_by, slice_index_or, true, false, Option, Some, None, Result, MatchResult}
 use Rattle.std.specs.List.{sum_by}
+use Rattle.device.specs.Faults.{Answer}
+use Rattle.device.specs.Rules.{Meaning}
 use Rattle.device.specs.Sector.{payload, torn, Image}
 use Rattle.layout.specs.declared.header.Header.{Header}
 use Rattle.image.specs.declared.headers.HeadersRead.{HeadersRead}
 use Rattle.image.specs.declared.log.LogRead.{LogRead}
 use Rattle.image.specs.declared.log.TheConstants.{LONGEST_LOG}
+use Rattle.image.specs.Headers.{IsHeaderIn, FirstLater}
 use Rattle.image.specs.Logs.{Change, span}
 use Rattle.image.specs.Reading.{Reading, ReadsTo}
 use Rattle.layout.specs.declared.page.Page.{Page}
 use Rattle.layout.specs.Geometries.{root_of, IsPage}
 use Rattle.layout.specs.Homes.{home_bytes}
 use Rattle.image.specs.declared.refusal.Refusal.{Refusal}
-use Rattle.image.specs.declared.refusal.Refusal.TheVariants.{Torn, Unlawful}
+use Rattle.image.specs.declared.refusal.Refusal.TheVariants.{Off, Torn, OutOfRange, NoHeader, LaterEpoch, Unlawful}
 use Rattle.image.specs.declared.judged.PagesJudged.{PagesJudged}
-use Rattle.image.specs.Heaps.{Heap, is_free, objects_of}
-use Rattle.image.specs.Images.{Reads, HasBody, IsPageAt, IsTornHome, Holds}
+use Rattle.image.specs.Heaps.{Heap, HasPage, page_of, is_free, objects_of}
+use Rattle.image.specs.Looking.{Looked}
+use Rattle.image.specs.Images.{Reads, HasBody, IsPageAt, IsTornHome, Shows, Holds}
 
 abbrev pub header_of : HeadersRead → Header
 header_of x = x.header
@@ -26,6 +30,13 @@ log_header x = x.header
 
 abbrev pub log_transactions : LogRead → ℕ
 log_transactions x = x.transactions
+
+-- q tells that no header of the image is valid; that a sector of the log under h shows a later epoch, and the lowest
+abbrev pub TellsNoHeader : ℕ → Image → Refusal → Type 0
+TellsNoHeader n σ q = (q ≡ NoHeader) × ((h : Header) → ¬ IsHeaderIn n σ h)
+
+abbrev pub TellsLater : Image → Header → Refusal → Type 0
+TellsLater σ h q = (s : ℕ) × (q ≡ LaterEpoch s) × FirstLater σ h s
 
 -- the homes of page records, in their order
 abbrev pub homes_in : List Change → List (Option ℕ)
@@ -94,6 +105,13 @@ FindsPage n σ x s p = (r : IsReadOf n σ x) → IsPage x.header.geometry s → 
 abbrev pub FindsNoPage : ℕ → Image → LogRead → ℕ → Refusal → Type 0
 FindsNoPage n σ x s q = (r : IsReadOf n σ x) → IsPage x.header.geometry s → ((p : Page) → ¬ IsPageAt σ x.header r.log s p) × IsFaultOf σ r.log s q
 
+-- the same where each page is known to be lawful: the page is that of the heap which the image shows; or it shows none
+abbrev pub FindsShown : ℕ → Image → LogRead → ℕ → Page → Type 0
+FindsShown n σ x s p = (r : IsReadOf n σ x) → IsPage x.header.geometry s → (H : Heap) → Shows n σ H → p ≡ page_of H s
+
+abbrev pub FindsNoneShown : ℕ → Image → LogRead → ℕ → Type 0
+FindsNoneShown n σ x s = (r : IsReadOf n σ x) → IsPage x.header.geometry s → (H : Heap) → ¬ Shows n σ H
+
 -- x is what was judged of an image that holds H
 pub record IsJudgedOf (n : ℕ) (σ : Image) (H : Heap) (x : PagesJudged) : Type 0 where
   pub read : IsReadOf n σ x.log
@@ -102,3 +120,10 @@ pub record IsJudgedOf (n : ℕ) (σ : Image) (H : Heap) (x : PagesJudged) : Type
   pub objects : x.objects ≡ sum_by objects_of H.pages
   pub transactions : x.log.transactions ≡ H.transactions
   pub root : root_of x.log.header.geometry ≡ H.root
+
+-- A call asks for the page of sector s again, from the device d to d', where x is what was judged of the image: it only reads. It tells the
+-- heap's page; or it answers that the device is off, and so it is; or the sector is no page's, and nothing is read.
+abbrev pub TellsPageAgain : {D : Type 0} → (D → Meaning) → (D → ℕ → List ℕ → List ℕ → Answer → D → Type 0) → D → D → PagesJudged → ℕ → Result Page Refusal → Type 0
+TellsPageAgain Means ReadMade d d' x s r = Looked Means ReadMade d d'
+    × MatchResult r (λ p. ((Means d').on ≡ true) × ((H : Heap) → IsJudgedOf (Means d).count (Means d).current H x → HasPage H s × (p ≡ page_of H s)))
+    (λ q. ((q ≡ Off) × ((Means d').on ≡ false)) ⊎ ((H : Heap) → IsJudgedOf (Means d).count (Means d).current H x → (q ≡ OutOfRange) × (¬ HasPage H s) × (d' ≡ d)))

@@ -5,7 +5,7 @@ use Rattle.std.specs.List.{sum_by}
 use Rattle.layout.specs.declared.page.Page.{Page}
 use Rattle.layout.specs.Bodies.{marks}
 use Rattle.image.specs.declared.tally.Tally.{Tally}
-use Rattle.image.specs.declared.tally.TheConstants.{MOST_SECTORS}
+use Rattle.layout.specs.declared.geometry.TheConstants.{MOST_SECTORS}
 use Rattle.image.specs.Heaps.{Heap, free_page, is_free, objects_of}
 
 abbrev pub page_at : List Page → ℕ → Page

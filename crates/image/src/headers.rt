@@ -3,7 +3,6 @@ ghost use Rattle.std.specs.Prelude.{◌≡◌, ◌<◌, ◌≤◌, ◌⊎◌, Ma
 ghost use Rattle.layout.specs.declared.header.Header.{Header as AHeader};
 ghost use Rattle.image.specs.Headers.{IsHeaderAt, IsHeaderIn, IsHeaderOf};
 ghost use Rattle.image.specs.Looking.{Tells, Finds};
-ghost use Rattle.image.specs.Images.{Judged};
 
 use crate::reading::look;
 use crate::{Off, Refusal};
@@ -17,13 +16,13 @@ pub struct HeadersRead {
 }
 
 impl HeadersRead {
-    ghost use Rattle.image.specs.Stages.{header_of};
+    ghost use Rattle.image.specs.Stages.{header_of, TellsNoHeader};
 
     /// Reads both headers: the valid one with the greater epoch counts.
     pub fn read<D: Device>(device: &mut D) -> Result<HeadersRead, Refusal>
         ensures { Finds D.means D.reads device.old device.new
             (λ x. IsHeaderOf (D.means device.old).count (D.means device.old).current (header_of x))
-            (Judged (D.means device.old).count (D.means device.old).current) result }
+            (TellsNoHeader (D.means device.old).count (D.means device.old).current) result }
     {
         match newest(device)? {
             Some(header) => Ok(HeadersRead { header }),

@@ -2,7 +2,7 @@
 ghost use Rattle.std.specs.Prelude.{◌≡◌, ℕ, MatchOption, count_by};
 ghost use Rattle.std.specs.List.{sum_by};
 ghost use Rattle.device.specs.Sector.{Image};
-ghost use Rattle.image.specs.Heaps.{Heap, HasPage, page_of, is_free, objects_of, NoneDangles, FirstDangling};
+ghost use Rattle.image.specs.Heaps.{Heap, is_free, objects_of, NoneDangles, FirstDangling};
 ghost use Rattle.image.specs.Examples.{WorkedExamples};
 ghost use Rattle.image.specs.Looking.{Finds};
 ghost use Rattle.image.specs.Images.{Judged, Shows, AtMostOneHeap, AtMostOneRefusal, NotBoth, AlwaysOne};
@@ -12,7 +12,7 @@ ghost use Rattle.image.specs.Tallies.{IsTallyOfHeap};
 
 use crate::Refusal;
 use crate::log::LogRead;
-use crate::pages::{page_bytes, page_of};
+use crate::pages::{page_of, shown_page};
 use crate::tally::Tally;
 use device::Device;
 use layout::Page;
@@ -26,7 +26,7 @@ pub struct PagesJudged {
 }
 
 impl PagesJudged {
-    ghost use Rattle.image.specs.Stages.{IsJudgedOf};
+    ghost use Rattle.image.specs.Stages.{IsJudgedOf, TellsPageAgain};
 
     /// Judges the pages by the log that was read.
     pub fn judge<D: Device>(device: &mut D, log: LogRead) -> Result<PagesJudged, Refusal>
@@ -92,19 +92,14 @@ impl PagesJudged {
         self.log.header().geometry.root()
     }
 
-    /// Reads the page of a sector again.
+    /// Reads the page of a sector again. A sector that is no page's is out of range, and then nothing is read.
     pub fn page<D: Device>(&self, device: &mut D, sector: u32) -> Result<Page, Refusal>
-        ensures { Finds D.means D.reads device.old device.new
-            (λ p. (H : Heap) → IsJudgedOf (D.means device.old).count (D.means device.old).current H self.now → HasPage H sector → p ≡ page_of H sector)
-            (λ q. (H : Heap) → IsJudgedOf (D.means device.old).count (D.means device.old).current H self.now → ¬ HasPage H sector) result }
+        ensures { TellsPageAgain D.means D.reads device.old device.new self.now sector result }
     {
-        let bytes = page_bytes(device, &self.log, sector)?;
-        let body = match bytes.last_chunk() {
-            Some(body) => body,
-            None => return Err(Refusal::Unlawful { sector }),
-        };
-        // it was judged before: that it is lawful need not be asked again
-        Page::decode(body).ok_or(Refusal::Unlawful { sector })
+        if !self.log.header().geometry.has_page(sector) {
+            return Err(Refusal::OutOfRange);
+        }
+        shown_page(device, &self.log, sector)
     }
 }
 
@@ -140,7 +135,7 @@ fn first_dangling<D: Device>(
 {
     let geometry = log.header().geometry;
     for sector in geometry.root()..geometry.sectors {
-        let page = page_of(device, log, sector)?;
+        let page = shown_page(device, log, sector)?;
         if let Some(word) = tally.dangling_word(&page) {
             return Ok(Some((sector, word)));
         }

@@ -15,5 +15,5 @@ pub use counts::Counts;
 pub use headers::HeadersRead;
 pub use judged::PagesJudged;
 pub use log::LogRead;
-pub use reading::Off;
+use reading::Off;
 pub use refusal::Refusal;

@@ -5,20 +5,18 @@ ghost use Rattle.device.specs.Sector.{Image};
 ghost use Rattle.layout.specs.declared.header.Header.{Header as AHeader};
 ghost use Rattle.image.specs.declared.entry.Entry.TheVariants.{Commit};
 ghost use Rattle.image.specs.Headers.{IsHeaderOf, IsLater, FirstLater, NoneLater};
-ghost use Rattle.image.specs.Images.{Judged};
 ghost use Rattle.image.specs.Looking.{Tells, Finds, Looked};
 ghost use Rattle.image.specs.Entries.{IsEntryAt};
 
 use crate::entry::{Entry, entry_at};
 use crate::headers::HeadersRead;
 use crate::reading::look;
-use crate::tally::MOST_SECTORS;
 use crate::{Off, Refusal};
 use device::Device;
-use layout::{Header, shown_epoch};
+use layout::{Header, MOST_LOG, MOST_SECTORS, shown_epoch};
 
 /// The most positions that a log has.
-const LONGEST_LOG: usize = 64;
+const LONGEST_LOG: usize = MOST_LOG as usize;
 
 /// The log of a card, as it was read.
 #[derive(Debug, Drop)]
@@ -36,7 +34,7 @@ pub struct LogRead {
 }
 
 impl LogRead {
-    ghost use Rattle.image.specs.Stages.{header_of, log_header, log_transactions, committed_homes, home_at, IsReadOf, HasRead, HasReadAll};
+    ghost use Rattle.image.specs.Stages.{header_of, log_header, log_transactions, committed_homes, home_at, IsReadOf, HasRead, HasReadAll, TellsLater};
 
     /// Reads the log under the header that was read.
     pub fn read<D: Device>(device: &mut D, headers: HeadersRead) -> Result<LogRead, Refusal>
@@ -44,7 +42,7 @@ impl LogRead {
             (λ x. IsHeaderOf (D.means device.old).count (D.means device.old).current (header_of headers)
             → IsReadOf (D.means device.old).count (D.means device.old).current x)
             (λ q. IsHeaderOf (D.means device.old).count (D.means device.old).current (header_of headers)
-            → Judged (D.means device.old).count (D.means device.old).current q) result }
+            → TellsLater (D.means device.old).current (header_of headers) q) result }
     {
         let header = headers.into_header();
         if let Some(sector) = first_later(device, header)? {

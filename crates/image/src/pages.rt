@@ -3,13 +3,13 @@ ghost use Rattle.std.specs.Prelude.{◌≡◌, ◌⊎◌, ◌<◌, IsTrue, ◌�
 ghost use Rattle.device.specs.Sector.{payload};
 ghost use Rattle.layout.specs.Homes.{home_bytes};
 ghost use Rattle.image.specs.Looking.{Finds};
-ghost use Rattle.image.specs.Stages.{NoHome, FindsBody, FindsNoBody, FindsPage, FindsNoPage};
+ghost use Rattle.image.specs.Stages.{NoHome, FindsBody, FindsNoBody, FindsPage, FindsNoPage, FindsShown, FindsNoneShown};
 
 use crate::Refusal;
 use crate::log::LogRead;
 use crate::reading::look;
 use device::{Device, PAYLOAD};
-use layout::{Home, Page};
+use layout::{Home, Page, body_of};
 
 // The lawful page of a sector.
 pub(crate) fn page_of<D: Device>(
@@ -22,12 +22,23 @@ pub(crate) fn page_of<D: Device>(
         (FindsNoPage (D.means device.old).count (D.means device.old).current log.now sector) result }
 {
     let bytes = page_bytes(device, log, sector)?;
-    let body = match bytes.last_chunk() {
-        Some(body) => body,
-        None => return Err(Refusal::Unlawful { sector }),
-    };
     let root = sector == log.header().geometry.root();
-    let page = Page::decode_lawful(body, root);
+    let page = Page::decode_lawful(body_of(&bytes), root);
+    page.ok_or(Refusal::Unlawful { sector })
+}
+
+// The page of a sector, where all are known to be lawful: that is not asked again.
+pub(crate) fn shown_page<D: Device>(
+    device: &mut D,
+    log: &LogRead,
+    sector: u32,
+) -> Result<Page, Refusal>
+    ensures { Finds D.means D.reads device.old device.new
+        (FindsShown (D.means device.old).count (D.means device.old).current log.now sector)
+        (λ q. FindsNoneShown (D.means device.old).count (D.means device.old).current log.now sector) result }
+{
+    let bytes = page_bytes(device, log, sector)?;
+    let page = Page::decode(body_of(&bytes));
     page.ok_or(Refusal::Unlawful { sector })
 }
 

@@ -9,7 +9,7 @@ use device::{Device, Fault, PAYLOAD};
 
 /// The device is off.
 #[derive(Clone, Copy, Debug, PartialEq, Eq)]
-pub struct Off;
+pub(crate) struct Off;
 
 impl From<Off> for Refusal {
     ghost from_gives = { λ _ refusal. refusal ≡ TurnedOff };

@@ -45,7 +45,7 @@ pub enum Refusal {
 }
 
 impl Refusal {
-    ghost use Rattle.image.specs.Refusals.{told};
+    ghost use Rattle.image.specs.Refusals.{told, sector_told, word_told};
 
     /// The number that the refusal goes by in documents and in programs' output.
     // A method and no `From` for `u8`: its name says which number is meant.
@@ -71,6 +71,29 @@ impl Refusal {
             Refusal::Unlawful { .. } => 16,
             Refusal::Dangling { .. } => 17,
             Refusal::ShortMemory => 18,
+        }
+    }
+
+    /// The sector that it tells of, if it tells of one.
+    pub fn sector(self) -> Option<u32>
+        ensures { result ≡ sector_told (told self).values }
+    {
+        match self {
+            Refusal::Torn { sector }
+            | Refusal::LaterEpoch { sector }
+            | Refusal::Unlawful { sector }
+            | Refusal::Dangling { sector, .. } => Some(sector),
+            _ => None,
+        }
+    }
+
+    /// The data word that it tells of, if it tells of one.
+    pub fn word(self) -> Option<usize>
+        ensures { result ≡ word_told (told self).values }
+    {
+        match self {
+            Refusal::Dangling { word, .. } => Some(word),
+            _ => None,
         }
     }
 }

@@ -5,10 +5,7 @@ ghost use Rattle.layout.specs.declared.handle.Handle.{Handle as AHandle};
 ghost use Rattle.layout.specs.declared.word.Word.TheVariants.{Reference};
 ghost use Rattle.image.specs.Heaps.{Heap, HasObject, DanglesIn, is_free};
 
-use layout::{Class, DATA_WORDS, Handle, Page, Word, is_marked};
-
-/// The most sectors that a card has.
-pub const MOST_SECTORS: usize = 1024;
+use layout::{Class, DATA_WORDS, Handle, MOST_SECTORS, Page, Word, is_marked};
 
 // What was found of the pages so far.
 #[derive(Debug, Drop)]

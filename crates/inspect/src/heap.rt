@@ -88,11 +88,9 @@ impl fmt::Display for Values {
     ghost output = { λ values. Some (values_text (told values.0).values) };
 
     fn fmt<W: fmt::Write>(&self, f: &mut fmt::Formatter<W>) -> fmt::Result {
-        match self.0 {
-            Refusal::Torn { sector }
-            | Refusal::LaterEpoch { sector }
-            | Refusal::Unlawful { sector } => { write!(f, ", sector {sector}") }
-            Refusal::Dangling { sector, word } => write!(f, ", sector {sector}, word {word}"),
+        match (self.0.sector(), self.0.word()) {
+            (Some(sector), Some(word)) => write!(f, ", sector {sector}, word {word}"),
+            (Some(sector), None) => write!(f, ", sector {sector}"),
             _ => Ok(()),
         }
     }

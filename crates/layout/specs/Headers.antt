@@ -3,10 +3,10 @@
 use Rattle.std.specs.Prelude.{◌≡◌, ℕ, ◌%◌, List, ◌∷◌, [], ◌++◌}
 use Rattle.layout.specs.declared.header.Header.{Header}
 use Rattle.layout.specs.Numbers.{two, four, zeros}
+use Rattle.layout.specs.Kinds.{header_kind, edition}
 
--- byte 0 is the kind of sector, and byte 1 the edition of the format
 unfoldable pub header_bytes : Header → List ℕ
-header_bytes h = 4 ∷ 1 ∷ [] ++ two h.geometry.log ++ four h.epoch ++ four h.geometry.sectors ++ four h.transactions ++ zeros 44
+header_bytes h = header_kind ∷ edition ∷ [] ++ two h.geometry.log ++ four h.epoch ++ four h.geometry.sectors ++ four h.transactions ++ zeros 44
 
 -- valid in sector s of a device with n sectors
 abbrev pub IsValidIn : ℕ → ℕ → Header → Type 0

@@ -2,7 +2,7 @@
 -- Assumes nothing.
 use Rattle.std.specs.Prelude.{ℕ, List, ◌∷◌, [], ◌++◌}
 use Rattle.layout.specs.Numbers.{four, zeros}
+use Rattle.layout.specs.Kinds.{home_kind}
 
--- byte 0 is the kind of sector
 unfoldable pub home_bytes : ℕ → List ℕ → List ℕ
-home_bytes s body = 3 ∷ 0 ∷ 0 ∷ 0 ∷ [] ++ four s ++ zeros 4 ++ body
+home_bytes s body = home_kind ∷ 0 ∷ 0 ∷ 0 ∷ [] ++ four s ++ zeros 4 ++ body

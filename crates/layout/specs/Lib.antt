@@ -1,10 +1,12 @@
 pub mod Numbers
+pub mod Kinds
 pub mod Geometries
 pub mod Headers
 pub mod Records
 pub mod Homes
 pub mod Classes
 pub mod Words
+pub mod Handles
 pub mod Pages
 pub mod Bodies
 pub mod Slots

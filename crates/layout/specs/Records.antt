@@ -6,14 +6,15 @@ use Rattle.layout.specs.declared.record.Record.{Record}
 use Rattle.layout.specs.declared.record.Record.TheVariants.{Page, Commit, Neither}
 use Rattle.layout.specs.Geometries.{IsPage}
 use Rattle.layout.specs.Numbers.{two, four, zeros}
+use Rattle.layout.specs.Kinds.{page_record_kind, commit_record_kind}
 
--- a page record of epoch e at position p: the page whose home is sector s has this body; byte 0 is the kind of sector
+-- a page record of epoch e at position p: the page whose home is sector s has this body
 unfoldable pub page_record_bytes : ℕ → ℕ → ℕ → List ℕ → List ℕ
-page_record_bytes e p s body = 1 ∷ 0 ∷ [] ++ two p ++ four e ++ four s ++ body
+page_record_bytes e p s body = page_record_kind ∷ 0 ∷ [] ++ two p ++ four e ++ four s ++ body
 
 -- a commit record of epoch e at position p: it ends a transaction of n page records, which is number k
 unfoldable pub commit_record_bytes : ℕ → ℕ → ℕ → ℕ → List ℕ
-commit_record_bytes e p n k = 2 ∷ 0 ∷ [] ++ two p ++ four e ++ four n ++ four k ++ zeros 44
+commit_record_bytes e p n k = commit_record_kind ∷ 0 ∷ [] ++ two p ++ four e ++ four n ++ four k ++ zeros 44
 
 -- a transaction has eight page records at most
 abbrev pub most_records : ℕ

@@ -6,10 +6,20 @@ ghost use Rattle.layout.specs.Numbers.{four};
 ghost use Rattle.layout.specs.Words.{value_of};
 ghost use Rattle.layout.specs.Bodies.{marks, kinds};
 
-use crate::{BODY, DATA_WORDS, Handle, Word};
+use crate::{BODY, DATA_WORDS, Handle, PAYLOAD, Word};
 
 /// The words of a body, two of head and the data words.
 pub const WORDS: usize = 2 + DATA_WORDS;
+
+/// The bytes of the body in a sector with a page: the last ones of it.
+pub fn body_of(bytes: &[u8; PAYLOAD]) -> &[u8; BODY]
+    ensures { result.now ≡ drop 12 bytes.now }
+{
+    match bytes.last_chunk() {
+        Some(body) => body,
+        None => unreachable!(),
+    }
+}
 
 // The words that have these bytes.
 pub fn words_of(bytes: &[u8; BODY]) -> [u32; WORDS]

@@ -1,6 +1,6 @@
 //! The class of a page: how many slots it has, and of how many words.
-ghost use Rattle.std.specs.Prelude.{◌≡◌, ℕ, ◌+◌, ◌*◌, ◌<◌, ◌≤◌, IsSome, IfSome, ◌↔◌, MatchOption};
-ghost use Rattle.layout.specs.Classes.{code_of, size_of, slots_of, Takes, Smallest};
+ghost use Rattle.std.specs.Prelude.{◌≡◌, ◌<◌, ◌≤◌, IsSome, IfSome, ◌↔◌};
+ghost use Rattle.layout.specs.Classes.{code_of, size_of, slots_of, Smallest};
 
 /// What the slots of a page are.
 #[derive(Clone, Copy, Debug, PartialEq, Eq)]
@@ -80,14 +80,6 @@ impl Class {
             Class::Five => 2,
             Class::Ten => 1,
         }
-    }
-
-    /// The slot that takes a data word, if one does.
-    pub fn slot_of(self, word: usize) -> Option<usize>
-        ensures { MatchOption result ((i : ℕ) → ¬ Takes self i word) (λ i. Takes self i word) }
-    {
-        let slot = word.checked_div(self.size())?;
-        (slot < self.slots()).then_some(slot)
     }
 
     /// The class whose slots have the smallest size of at least so many words.

@@ -1,6 +1,17 @@
 //! How a card is divided: headers, log, root page, data pages.
 ghost use Rattle.std.specs.Prelude.{◌≡◌, ◌+◌, ◌<◌, ◌≤◌, IsTrue, ◌↔◌, IfSome, IsSome};
 
+/// The least and the most sectors of a log.
+pub const LEAST_LOG: u16 = 9;
+
+pub const MOST_LOG: u16 = 64;
+
+/// The most sectors of a card.
+pub const MOST_SECTORS: usize = 1024;
+
+// Beside its log a card has at least two headers, the root page and a data page.
+const LEAST_REST: u32 = 4;
+
 /// A card's count of sectors and the length of its log, within the limits of the format.
 // The format stores the log's length in two bytes and a sector's number in four.
 #[derive(Clone, Copy, Debug, PartialEq, Eq)]
@@ -21,8 +32,9 @@ impl Geometry {
         ensures within { IsSome result ↔ Within sectors log }
         ensures value { IfSome result (λ g. (g.sectors ≡ sectors) × (g.log ≡ log)) }
     {
-        let enough = u32::from(log) + 4 <= sectors;
-        if (9..=64).contains(&log) && enough && sectors <= 1024 {
+        let log_fits = (LEAST_LOG..=MOST_LOG).contains(&log);
+        let rest_fits = u32::from(log) + LEAST_REST <= sectors;
+        if log_fits && rest_fits && sectors as usize <= MOST_SECTORS {
             Some(Geometry { sectors, log })
         } else {
             None

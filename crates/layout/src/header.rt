@@ -1,8 +1,11 @@
 //! The header of a card: its geometry, its epoch, and the count of transactions before its log.
 ghost use Rattle.std.specs.Prelude.{◌≡◌, ◌≤◌, ◌<◌, ◌^◌, IsTrue, ◌↔◌, IfSome};
 
-use crate::number::{four_at, two_at};
+use crate::number::{HEADER, four_at, two_at};
 use crate::{Geometry, PAYLOAD};
+
+// The edition of the format.
+const EDITION: u8 = 1;
 
 /// A header within the limits of the format.
 #[derive(Clone, Copy, Debug, PartialEq, Eq)]
@@ -53,8 +56,8 @@ impl Header {
         ensures only { (h : Header) → header_bytes h ≡ result → h ≡ self.now }
     {
         let mut bytes = [0; PAYLOAD];
-        bytes[0] = 4;
-        bytes[1] = 1;
+        bytes[0] = HEADER;
+        bytes[1] = EDITION;
         bytes[2..4].copy_from_slice(&self.geometry.log.to_le_bytes());
         bytes[4..8].copy_from_slice(&self.epoch.to_le_bytes());
         bytes[8..12].copy_from_slice(&self.geometry.sectors.to_le_bytes());

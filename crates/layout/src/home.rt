@@ -1,7 +1,8 @@
 //! The home of a page.
 ghost use Rattle.std.specs.Prelude.{◌≡◌, ℕ, ◌<◌, ◌^◌, List, drop, IfSome, IsSomeAnd};
 
-use crate::number::four_at;
+use crate::body::body_of;
+use crate::number::{HOME, four_at};
 use crate::{BODY, PAYLOAD};
 
 /// A home: the number of its own sector, and the body in it.
@@ -23,7 +24,7 @@ impl<'a> Home<'a> {
     {
         let home = Home {
             sector: four_at(bytes, 4),
-            body: bytes.last_chunk()?,
+            body: body_of(bytes),
         };
         (home.encode() == *bytes).then_some(home)
     }
@@ -36,7 +37,7 @@ impl<'a> Home<'a> {
     {
         let Home { sector, body } = *self;
         let mut bytes = [0; PAYLOAD];
-        bytes[0] = 3;
+        bytes[0] = HOME;
         bytes[4..8].copy_from_slice(&sector.to_le_bytes());
         bytes[12..].copy_from_slice(body);
         bytes

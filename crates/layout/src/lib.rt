@@ -13,9 +13,10 @@ mod record;
 mod slots;
 mod word;
 
+pub use body::body_of;
 pub use class::Class;
-pub use geometry::Geometry;
-pub use handle::Handle;
+pub use geometry::{Geometry, LEAST_LOG, MOST_LOG, MOST_SECTORS};
+pub use handle::{HANDLES, Handle};
 pub use header::Header;
 pub use home::Home;
 pub use page::{DATA_WORDS, Page};

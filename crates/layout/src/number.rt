@@ -4,6 +4,15 @@ ghost use Rattle.layout.specs.Numbers.{two_at, four_at};
 
 use crate::PAYLOAD;
 
+// Byte 0 of a sector, which says of what kind it is.
+pub const PAGE_RECORD: u8 = 1;
+
+pub const COMMIT_RECORD: u8 = 2;
+
+pub const HOME: u8 = 3;
+
+pub const HEADER: u8 = 4;
+
 /// The number in the two bytes from a place on.
 #[tactic(auto, unfolding(crate::specs::Numbers::two_at))]
 pub fn two_at(bytes: &[u8; PAYLOAD], place: usize) -> u16

@@ -31,15 +31,6 @@ impl Page {
         slot < DATA_WORDS && self.used[slot]
     }
 
-    /// Whether a data word is a word of an object.
-    pub fn in_object(&self, word: usize) -> bool
-        ensures { IsTrue result ↔ InObject self.now word }
-    {
-        self.class
-            .slot_of(word)
-            .is_some_and(|slot| self.is_used(slot))
-    }
-
     /// How many slots hold objects.
     pub fn objects(&self) -> usize
         ensures value { result ≡ count_by (λ used. used) self.now.used }

@@ -3,7 +3,8 @@ ghost use Rattle.std.specs.Prelude.{◌≡◌, ◌≢◌, ℕ, ◌≤◌, ◌<�
 ghost use Rattle.layout.specs.Numbers.{four_at};
 ghost use Rattle.layout.specs.RecordBytes.{HasRecordByte};
 
-use crate::number::{four_at, two_at};
+use crate::body::body_of;
+use crate::number::{COMMIT_RECORD, PAGE_RECORD, four_at, two_at};
 use crate::{BODY, Geometry, PAYLOAD};
 
 /// The most page records that a transaction has.
@@ -69,7 +70,7 @@ impl<'a> PageRecord<'a> {
             position: two_at(bytes, 2),
             epoch: four_at(bytes, 4),
             home: four_at(bytes, 8),
-            body: bytes.last_chunk()?,
+            body: body_of(bytes),
         };
         (page.encode() == *bytes).then_some(page)
     }
@@ -90,7 +91,7 @@ impl<'a> PageRecord<'a> {
             body,
         } = *self;
         let mut bytes = [0; PAYLOAD];
-        bytes[0] = 1;
+        bytes[0] = PAGE_RECORD;
         bytes[2..4].copy_from_slice(&position.to_le_bytes());
         bytes[4..8].copy_from_slice(&epoch.to_le_bytes());
         bytes[8..12].copy_from_slice(&home.to_le_bytes());
@@ -134,7 +135,7 @@ impl CommitRecord {
             number,
         } = *self;
         let mut bytes = [0; PAYLOAD];
-        bytes[0] = 2;
+        bytes[0] = COMMIT_RECORD;
         bytes[2..4].copy_from_slice(&position.to_le_bytes());
         bytes[4..8].copy_from_slice(&epoch.to_le_bytes());
         bytes[8..12].copy_from_slice(&pages.to_le_bytes());
@@ -150,7 +151,7 @@ pub fn shown_epoch(bytes: &[u8; PAYLOAD]) -> Option<u32>
         (λ e. HasRecordByte bytes.now × (e ≡ four_at bytes.now 4)) }
 {
     match bytes[0] {
-        1 | 2 => Some(four_at(bytes, 4)),
+        PAGE_RECORD | COMMIT_RECORD => Some(four_at(bytes, 4)),
         _ => None,
     }
 }

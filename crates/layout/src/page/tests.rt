@@ -35,7 +35,6 @@ fn byte_for_byte(rt: HostRuntime) {
     assert_eq!(rt; Page::decode_lawful(&bytes, false), Some(page));
     assert_eq!(rt; page.objects(), 2);
     assert!(rt; page.is_used(1) && !page.is_used(2));
-    assert!(rt; page.in_object(3) && !page.in_object(4));
 }
 
 #[test]

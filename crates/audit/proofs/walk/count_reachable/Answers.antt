@@ -4,10 +4,12 @@ use Rattle.std.proofs.Common.{◌==◌, ℕ, length, List, ap, ◌∙◌, arith}
 use Rattle.std.proofs.lemmas.List.{length-replicate}
 use Rattle.std.proofs.lemmas.List.Sums.{count_by-le-length}
 use Rattle.image.specs.Looking.{none}
-use Rattle.image.proofs.Lookings.{tells_then, refused_then}
+use Rattle.image.specs.Stages.{IsJudgedOf}
+use Rattle.image.proofs.Lookings.{tells_then}
+use Rattle.audit.proofs.Following.{carried_on, off_then}
 use Rattle.audit.proofs.Marking.{marks_room}
 use Rattle.audit.proofs.Objects.{root_marks, object_marks}
-use Rattle.audit.proofs.Turns.{IsPageOf, HasNone, root_there, root_read, object_there, object_slot, object_read}
+use Rattle.audit.proofs.Turns.{IsPageOf, root_there, root_read, object_there, object_slot, object_read}
 use Rattle.audit.proofs.Walks.{walk_starts, walk_reached, walk_goes_on, walk_ends}
 use Rattle.audit.proofs.walk.count_reachable.Goals as goal
 
@@ -15,15 +17,15 @@ pub returns-in_err-root : goal.returns-in_err-root
 returns-in_err-root g c =
     let m = g.D.Device.means c.args.device.now in
     let (H, j) = c.requires.judged in
-    refused_then _ _ _ _ (HasNone c.args.judged.now c.root.result) _ _ _ _ _ none c.in_err-root.ensures c.from_residual.ensures.1
-    (λ f. f H j (root_there m.count m.current H j.holds _ (c.root.ensures m.count m.current H j)))
+    off_then _ _ _ _ _ _ _ _ none c.in_err-root.ensures c.from_residual.ensures.1
+    (λ x. (x H j).1 (root_there m.count m.current H j.holds _ (c.root.ensures m.count m.current H j)))
 
 pub visit_all-requires-clause-inside : goal.visit_all-requires-clause-inside
 visit_all-requires-clause-inside g c =
     let m = g.D.Device.means c.args.device.now in
     let (H, j) = c.requires.judged in
     root_marks m.count m.current H j.holds _ (ap (λ (ms : List ℕ). length ms) c.requires.clear ∙ length-replicate {A = ℕ} _ 0) _
-    (root_read m.count m.current H j.holds _ _ (c.root.ensures m.count m.current H j) (c.in_ok-root.ensures.1.1 H j))
+    (root_read m.count m.current H j.holds _ _ (c.root.ensures m.count m.current H j) (c.in_ok-root.ensures.1.1 H j).1)
 
 pub loop-number-init : goal.loop-number-init
 loop-number-init g c =
@@ -38,7 +40,7 @@ loop-number-init g c =
       on = c.in_ok-root.ensures.1.0;
       walked = λ H j. walk_starts m.count m.current H j.holds _ _ _ _ _ _
           (root_read m.count m.current H j.holds _ _ (c.root.ensures m.count m.current H j)
-          (c.in_ok-root.ensures.1.1 H j)) c.requires.clear c.new-queue.ensures.empty v;
+          (c.in_ok-root.ensures.1.1 H j).1) c.requires.clear c.new-queue.ensures.empty v;
       room = omega (arith, c.requires.room, c.visit_all.ensures.places);
       fits = omega arith;
     }
@@ -49,8 +51,9 @@ returns-in_err-page g c =
     let inv = c.loop-number.invariant in
     let (H, j) = c.requires.judged in
     let r = walk_reached H _ _ _ _ _ (inv.walked H j) c.in-Some.ensures.taken in
-    refused_then _ _ _ _ (HasNone c.args.judged.now c.sector.result) _ _ _ _ _ inv.looked c.in_err-page.ensures c.from_residual-in_err-page.ensures.1
-    (λ f. f H j (object_there m.count m.current H j.holds _ _ _ r c.from.ensures c.sector.ensures))
+    off_then _ _ _ _ _ _ _ _ inv.looked c.in_err-page.ensures c.from_residual-in_err-page.ensures.1
+    (λ x. (x H (carried_on _ _ (λ n σ. IsJudgedOf n σ H c.args.judged.now) _ _ inv.looked inv.on j)).1
+    (object_there m.count m.current H j.holds _ _ _ r c.from.ensures c.sector.ensures))
 
 pub words_of-requires : goal.words_of-requires
 words_of-requires g c =
@@ -59,7 +62,7 @@ words_of-requires g c =
     let (H, j) = c.requires.judged in
     let r = walk_reached H _ _ _ _ _ (inv.walked H j) c.in-Some.ensures.taken in
     let t = tells_then _ _ (IsPageOf c.args.judged.now c.sector.result c.in_ok-page.page) _ _ _ inv.looked c.in_ok-page.ensures in
-    object_slot m.count m.current H j.holds _ _ _ r c.from.ensures c.sector.ensures _ (t.1.1 H j) _ c.slot.ensures
+    object_slot m.count m.current H j.holds _ _ _ r c.from.ensures c.sector.ensures _ (t.1.1 H j).1 _ c.slot.ensures
 
 pub visit_all-requires-in-Some-clause-inside : goal.visit_all-requires-in-Some-clause-inside
 visit_all-requires-in-Some-clause-inside g c =
@@ -70,7 +73,7 @@ visit_all-requires-in-Some-clause-inside g c =
     let t = tells_then _ _ (IsPageOf c.args.judged.now c.sector.result c.in_ok-page.page) _ _ _ inv.looked c.in_ok-page.ensures in
     object_marks m.count m.current H j.holds _ (c.loop-number.auto.marks ∙ c.visit_all.auto.marks
     ∙ ap (λ (ms : List ℕ). length ms) c.requires.clear ∙ length-replicate {A = ℕ} _ 0) _ _ r
-    (object_read m.count m.current H j.holds _ _ _ r c.from.ensures c.sector.ensures _ (t.1.1 H j) _ c.slot.ensures _ c.words_of.ensures)
+    (object_read m.count m.current H j.holds _ _ _ r c.from.ensures c.sector.ensures _ (t.1.1 H j).1 _ c.slot.ensures _ c.words_of.ensures)
 
 pub loop-number-smaller : goal.loop-number-smaller
 loop-number-smaller g c =
@@ -94,7 +97,7 @@ loop-number-preserved g c =
           let r = walk_reached H _ _ _ _ _ (inv.walked H j) c.in-Some.ensures.taken in
           walk_goes_on m.count m.current H j.holds _ _ _ _ _ (inv.walked H j) c.in-Some.ensures.taken _ _ _
           (object_read m.count m.current H j.holds _ _ _ r c.from.ensures c.sector.ensures _
-          (t.1.1 H j) _ c.slot.ensures _ c.words_of.ensures) v;
+          (t.1.1 H j).1 _ c.slot.ensures _ c.words_of.ensures) v;
       room = omega (arith, inv.room, c.visit_all-in-Some.ensures.places);
       fits = omega (arith, inv.fits, c.visit_all-in-Some.auto.marks);
     }

@@ -4,9 +4,9 @@ use Rattle.std.proofs.Common.{◌≡◌, ◌∙◌, ap, arith}
 use Rattle.layout.specs.declared.header.Header.{Header}
 use Rattle.layout.specs.Geometries.{root_of}
 use Rattle.image.specs.Looking.{none}
-use Rattle.image.specs.Stages.{FindsPage, FindsNoPage}
+use Rattle.image.specs.Stages.{FindsShown, FindsNoneShown}
 use Rattle.image.proofs.Lookings.{tells_then, refused_then}
-use Rattle.image.proofs.Judging.{none_yet, none_more, first_found, none_at_all, no_page_shown}
+use Rattle.image.proofs.Judging.{none_yet, none_more, first_found, none_at_all}
 use Rattle.image.proofs.judged.first_dangling.Goals as goal
 
 pub loop-sector-init : goal.loop-sector-init
@@ -22,7 +22,7 @@ loop-sector-preserved g c =
     let s = c.loop-sector.sector in
     let root : c.root-sector.result ≡ root_of x.header.geometry = c.root-sector.ensures ∙ ap (λ (h : Header). root_of h.geometry) c.header.ensures in
     let end : c.header.result.geometry.sectors ≡ x.header.geometry.sectors = ap (λ (h : Header). h.geometry.sectors) c.header.ensures in
-    let t = tells_then _ _ (λ n σ. FindsPage n σ x s c.in_ok-page.page) _ _ _ inv.looked c.in_ok-page.ensures in
+    let t = tells_then _ _ (λ n σ. FindsShown n σ x s c.in_ok-page.page) _ _ _ inv.looked c.in_ok-page.ensures in
     record {
       looked = t.0;
       on = λ _. t.1.0;
@@ -37,7 +37,7 @@ returns-in-Some g c =
     let s = c.loop-sector.sector in
     let root : c.root-sector.result ≡ root_of x.header.geometry = c.root-sector.ensures ∙ ap (λ (h : Header). root_of h.geometry) c.header.ensures in
     let end : c.header.result.geometry.sectors ≡ x.header.geometry.sectors = ap (λ (h : Header). h.geometry.sectors) c.header.ensures in
-    let t = tells_then _ _ (λ n σ. FindsPage n σ x s c.in_ok-page.page) _ _ _ inv.looked c.in_ok-page.ensures in (
+    let t = tells_then _ _ (λ n σ. FindsShown n σ x s c.in_ok-page.page) _ _ _ inv.looked c.in_ok-page.ensures in (
       t.0,
       (
         t.1.0,
@@ -53,8 +53,8 @@ returns-in_err-page g c =
     let s = c.loop-sector.sector in
     let root : c.root-sector.result ≡ root_of x.header.geometry = c.root-sector.ensures ∙ ap (λ (h : Header). root_of h.geometry) c.header.ensures in
     let end : c.header.result.geometry.sectors ≡ x.header.geometry.sectors = ap (λ (h : Header). h.geometry.sectors) c.header.ensures in
-    refused_then _ _ _ _ (λ n σ. FindsNoPage n σ x s c.in_err-page.field-0.0) _ _ _ _ _ inv.looked c.in_err-page.ensures c.from_residual.ensures.1
-    (λ f r H a. no_page_shown _ _ x r H a s _ (omega arith, omega arith) f)
+    refused_then _ _ _ _ (λ n σ. FindsNoneShown n σ x s) _ _ _ _ _ inv.looked c.in_err-page.ensures c.from_residual.ensures.1
+    (λ f r H a. f r (omega arith, omega arith) H a)
 
 pub returns : goal.returns
 returns g c =

@@ -1,23 +1,26 @@
 -- The page that was judged is read again.
 -- Assumes nothing.
-use Rattle.std.proofs.Common.{◌≡◌, ℕ, List, drop, subst, rules}
+use Rattle.std.proofs.Common.{refl, inr, sym, subst}
+use Rattle.std.proofs.lemmas.Bool.{both_ways}
+use Rattle.layout.specs.declared.header.Header.{Header}
+use Rattle.layout.specs.Geometries.{IsPage}
 use Rattle.image.specs.Looking.{none}
-use Rattle.image.specs.Stages.{FindsBody, FindsNoBody}
-use Rattle.image.proofs.Lookings.{finds_or, refused_then}
-use Rattle.image.proofs.Judging.{judged_finds, judged_none}
+use Rattle.image.proofs.Judging.{judged_inside, told_again}
 use Rattle.image.proofs.judged.PagesJudged.page.Goals as goal
 
-pub returns-in_err-bytes : goal.returns-in_err-bytes
-returns-in_err-bytes g c =
-    let m = g.D.Device.means c.args.device.now in
-    refused_then _ _ _ _ (λ n σ. FindsNoBody n σ c.args.self.now.log c.args.sector c.in_err-bytes.field-0.0) _ _ _ _ _ none c.in_err-bytes.ensures c.from_residual.ensures.1
-    (judged_none m.count m.current c.args.self.now c.args.sector _)
+pub returns-then-not-has_page : goal.returns-then-not-has_page
+returns-then-not-has_page g c =
+    let m = g.D.Device.means c.args.device.now in (
+      none,
+      inr (λ H j. (
+        refl,
+        (λ h. both_ways c.has_page.result c.if-not-has_page.true (c.has_page.ensures.1
+            (subst (λ (k : Header). IsPage k.geometry c.args.sector) (sym c.header.ensures) ((judged_inside m.count m.current c.args.self.now c.args.sector H j).1 h)))),
+        refl,
+      )),
+    )
 
 pub returns : goal.returns
 returns g c =
-    let l = c.in_ok-bytes.ensures in
-    let m = g.D.Device.means c.args.device.now in
-    let body : drop 12 c.in_ok-bytes.bytes ≡ c.in-Some.body.now = search rules in
-    finds_or _ _ _ _ _ _ _ _ _ c.ok_or.ensures.value l.0 l.1.0
-    (judged_finds m.count m.current c.args.self.now c.args.sector _ _ (subst (λ (b : List ℕ). FindsBody m.count m.current c.args.self.now.log c.args.sector b) body l.1.1)
-    c.decode.ensures.found c.decode.ensures.only)
+    told_again g.D.Device.means g.D.Device.reads _ _ c.args.self.now c.args.sector _
+    (subst (λ (k : Header). IsPage k.geometry c.args.sector) c.header.ensures (c.has_page.ensures.0 c.if-not-has_page.false)) c.shown_page.ensures

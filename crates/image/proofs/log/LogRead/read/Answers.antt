@@ -1,6 +1,6 @@
 -- The log is read where no sector of it shows a later epoch.
 -- Assumes nothing.
-use Rattle.std.proofs.Common.{◌≡◌, inr, ap, ◌∙◌, subst}
+use Rattle.std.proofs.Common.{◌≡◌, refl, inr, ap, ◌∙◌, subst}
 use Rattle.layout.specs.declared.header.Header.{Header}
 use Rattle.image.specs.Headers.{FirstLater}
 use Rattle.image.specs.Stages.{HasReadAll}
@@ -17,7 +17,7 @@ returns-in-Some g c =
         λ h. let z = rw c.in-Some.is at t.1.1 in
             let e = c.into_header-header.ensures in
             let m = g.D.Device.means c.args.device.now in
-            (c.args.headers.header, h, subst (λ (k : Header). FirstLater m.current k c.in-Some.sector) e (z (ap (λ (k : Header). k.geometry.sectors) e ∙ h.valid.0.0))),
+            (c.in-Some.sector, refl, subst (λ (k : Header). FirstLater m.current k c.in-Some.sector) e (z (ap (λ (k : Header). k.geometry.sectors) e ∙ h.valid.0.0))),
       ),
     )
 

@@ -28,5 +28,5 @@ struct check_result c_check(const struct card *card, uint8_t *marks, size_t mark
 
 // The proved one: 0 with the transactions, the free pages, the objects and those reachable in `told`, or the refusal
 // with its sector and its word there.
-extern uint32_t goarfleki_check(uint8_t *image, size_t image_len, uint8_t *marks, size_t marks_len, uint16_t *numbers,
+extern uint32_t goarfleki_check(const uint8_t *image, size_t image_len, uint8_t *marks, size_t marks_len, uint16_t *numbers,
                                 size_t numbers_len, uint64_t *told, size_t told_len);

@@ -7,7 +7,7 @@ use Rattle.image.specs.declared.refusal.Refusal.TheVariants.{Off, NoSector, Torn
 use Rattle.image.specs.Images.{Judged}
 use Rattle.audit.specs.Checks.{wanted, Checks}
 
-module _ {D : Type 0} (d d' : D) (m m' : Meaning) (ms ms' ns ns' : List ℕ) (on : m'.on ≡ true) (long : wanted m.count ≤ length ms) (wide : wanted m.count ≤ length ns) where
+module _ (m m' : Meaning) (ms ms' ns ns' : List ℕ) (on : m'.on ≡ true) (long : wanted m.count ≤ length ms) (wide : wanted m.count ≤ length ns) where
   still_on : {A B : Type 0} → (A × (m'.on ≡ false)) ⊎ ((m'.on ≡ true) × B) → B
   still_on (inl a) = let e = sym on ∙ a.1 in cc
   still_on (inr b) = b.1
@@ -17,7 +17,7 @@ module _ {D : Type 0} (d d' : D) (m m' : Meaning) (ms ms' ns ns' : List ℕ) (on
   not_short (inr l) = absurd (omega (arith, l, wide))
 
   -- the device is on: it is the image's
-  pub refused : (q : Refusal) → Checks d d' m m' ms ms' ns ns' (Err q) → Judged m.count m.current q
+  pub refused : (q : Refusal) → Checks m m' ms ms' ns ns' (Err q) → Judged m.count m.current q
   refused Off c = still_on c.2
   refused NoSector c = still_on c.2
   refused (Torn s) c = still_on c.2

@@ -5,16 +5,10 @@ use Rattle.device.specs.Sector.{Image}
 use Rattle.layout.specs.declared.word.Word.{Word}
 use Rattle.layout.specs.declared.page.Page.{Page}
 use Rattle.layout.specs.Classes.{size_of, slots_of}
-use Rattle.image.specs.declared.judged.PagesJudged.{PagesJudged}
 use Rattle.image.specs.Heaps.{Heap, HasPage, page_of, Reaches}
 use Rattle.image.specs.Images.{Holds}
-use Rattle.image.specs.Stages.{IsJudgedOf}
 use Rattle.audit.specs.Visits.{handle}
 use Rattle.audit.proofs.Objects.{object_words, root_page, reached_page, reached_slot}
-
--- sector s is that of page p of the heap that was judged
-abbrev pub IsPageOf : PagesJudged → ℕ → Page → ℕ → Image → Type 0
-IsPageOf y s p n σ = (H : Heap) → IsJudgedOf n σ H y → HasPage H s × (p ≡ page_of H s)
 
 module _ (n : ℕ) (σ : Image) (H : Heap) (a : Holds n σ H) (s : ℕ) where
   pub root_there : s ≡ H.root → HasPage H s

@@ -1,7 +1,7 @@
 //! The check of a card: what its image holds is judged and counted, and nothing is written.
 #![tactic(auto)]
 
-ghost use Rattle.std.specs.Prelude.{◌≡◌, ◌≤◌, length, replicate};
+ghost use Rattle.std.specs.Prelude.{◌≡◌, ◌≤◌, length, replicate, Err};
 ghost use Rattle.audit.specs.Checks.{wanted, Checks};
 ghost use Rattle.image.specs.Heaps.{Heap, Counted};
 ghost use Rattle.image.specs.Images.{Holds, Judged};
@@ -26,8 +26,9 @@ pub fn check<D: Device>(
 ) -> Result<Counts, Refusal>
     ensures looked { Looked D.means D.reads device.old device.new }
     ensures stays { OnlyReads (D.means device.old) (D.means device.new) }
-    ensures checked { Checks device.old device.new (D.means device.old) (D.means device.new)
+    ensures checked { Checks (D.means device.old) (D.means device.new)
         marks.old marks.new numbers.old numbers.new result }
+    ensures short { result ≡ Err Refusal.ShortMemory → device.new ≡ device.old }
 {
     let wanted = HANDLES as usize * device.count() as usize;
     if marks.len() < wanted || numbers.len() < wanted {

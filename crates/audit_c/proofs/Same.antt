@@ -1,6 +1,6 @@
 -- A check of a row image leaves it as it is, and tells of its memory.
 -- Assumes nothing.
-use Rattle.std.proofs.Common.{◌≡◌, ℕ, List, Result, refl, sym, ◌∙◌, subst}
+use Rattle.std.proofs.Common.{◌≡◌, ℕ, List, Result, refl, ◌∙◌, subst}
 use Rattle.media.specs.declared.row_image.RowImage.{RowImage}
 use Rattle.media.specs.Cards.{memory}
 use Rattle.media.specs.Rows.{rows_mean}
@@ -14,7 +14,7 @@ same d _ none = refl
 same d _ (more e f s x y r l c q) = q ∙ same d e l
 
 pub checked : (d d' : RowImage) (m ms ms' ns ns' : List ℕ) (r : Result Counts Refusal) → d' ≡ d → memory d ≡ m
-    → Checks d d' (rows_mean (memory d)) (rows_mean (memory d')) ms ms' ns ns' r → Checks d d (rows_mean m) (rows_mean m) ms ms' ns ns' r
+    → Checks (rows_mean (memory d)) (rows_mean (memory d')) ms ms' ns ns' r → Checks (rows_mean m) (rows_mean m) ms ms' ns ns' r
 checked d d' m ms ms' ns ns' r e f c =
-    subst (λ (n : List ℕ). Checks d d (rows_mean n) (rows_mean n) ms ms' ns ns' r) f
-    (subst (λ (g : RowImage). Checks d g (rows_mean (memory d)) (rows_mean (memory g)) ms ms' ns ns' r) e c)
+    subst (λ (n : List ℕ). Checks (rows_mean n) (rows_mean n) ms ms' ns ns' r) f
+    (subst (λ (g : RowImage). Checks (rows_mean (memory d)) (rows_mean (memory g)) ms ms' ns ns' r) e c)

@@ -1,11 +1,8 @@
 -- What a program in C is told of the check of a row image. Assumes nothing.
-use Rattle.std.specs.Prelude.{◌≡◌, ◌≢◌, ℕ, ◌%◌, ◌<◌, ◌≤◌, ◌⊎◌, List, [], ◌∷◌, ◌++◌, length, take, replicate, Ok, Err, Result}
-use Rattle.media.specs.declared.row_image.RowImage.{RowImage}
-use Rattle.media.specs.Cards.{memory}
+use Rattle.std.specs.Prelude.{◌≢◌, ℕ, ◌%◌, ◌<◌, ◌⊎◌, List, [], ◌∷◌, ◌++◌, length, take, replicate, Ok, Err, Result}
 use Rattle.media.specs.Rows.{rows_mean}
 use Rattle.image.specs.declared.counts.Counts.{Counts}
 use Rattle.image.specs.declared.refusal.Refusal.{Refusal}
-use Rattle.image.specs.declared.refusal.Refusal.TheVariants.{NoHeader}
 use Rattle.image.specs.Refusals.{told}
 use Rattle.audit.specs.Checks.{Checks}
 
@@ -23,10 +20,6 @@ values_of (Err q) = take 4 ((told q).values ++ replicate 4 0)
 abbrev pub Unfit : List ℕ → List ℕ → Type 0
 Unfit m ts = (length m % 64 ≢ 0) ⊎ (length ts < 4)
 
--- r is what the check answers over a row image in memory m, with marks ms and numbers ns before, and ms' and ns' after
+-- r is what the check answers over the row image in memory m, with marks ms and numbers ns before, and ms' and ns' after
 abbrev pub ChecksRows : List ℕ → List ℕ → List ℕ → List ℕ → List ℕ → Result Counts Refusal → Type 0
-ChecksRows m ms ms' ns ns' r = (d : RowImage) × (memory d ≡ m) × Checks d d (rows_mean m) (rows_mean m) ms ms' ns ns' r
-
--- the image in memory m is too long for a card: it has no valid header, and nothing is touched; or else the check answers r
-abbrev pub ChecksImage : List ℕ → List ℕ → List ℕ → List ℕ → List ℕ → Result Counts Refusal → Type 0
-ChecksImage m ms ms' ns ns' r = ((65536 < length m) × (r ≡ Err NoHeader) × (ms' ≡ ms) × (ns' ≡ ns)) ⊎ ((length m ≤ 65536) × ChecksRows m ms ms' ns ns' r)
+ChecksRows m ms ms' ns ns' r = Checks (rows_mean m) (rows_mean m) ms ms' ns ns' r

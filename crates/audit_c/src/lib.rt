@@ -1,14 +1,15 @@
 //! The check for programs in C: a static library over `audit`.
 #![tactic(auto)]
 
-ghost use Rattle.std.specs.Prelude.{◌≡◌, ◌%◌, ◌++◌, length, drop, Err, Result};
+ghost use Rattle.std.specs.Prelude.{◌≡◌, ◌%◌, ◌<◌, ◌++◌, length, drop, Err, Result};
 ghost use Rattle.image.specs.declared.counts.Counts.{Counts as Numbers};
 ghost use Rattle.image.specs.declared.refusal.Refusal.{Refusal as Reason};
-ghost use Rattle.audit_c.specs.Told.{number_of, values_of, Unfit, ChecksImage};
+ghost use Rattle.device.specs.Memory.{row_count};
+ghost use Rattle.audit_c.specs.Told.{number_of, values_of, Unfit, ChecksRows};
 
 use audit::check;
 use image::{Counts, Refusal};
-use layout::MOST_SECTORS;
+use layout::{HANDLES, MOST_SECTORS};
 use media::{ROW, RowImage};
 
 // The most bytes that a card image has.
@@ -28,7 +29,7 @@ pub extern "C" fn goarfleki_check(
     ensures unfit { Unfit image.now told.old
         → (result ≡ 18) × (marks.new ≡ marks.old) × (numbers.new ≡ numbers.old) × (told.new ≡ told.old) }
     ensures checked { ¬ Unfit image.now told.old
-        → (r : Result Numbers Reason) × ChecksImage image.now marks.old marks.new numbers.old numbers.new r
+        → (r : Result Numbers Reason) × ChecksRows image.now marks.old marks.new numbers.old numbers.new r
         × (result ≡ number_of r) × (told.new ≡ values_of r ++ drop 4 told.old) }
 {
     if told.len() < 4 || !image.len().is_multiple_of(ROW) {
@@ -42,17 +43,39 @@ pub extern "C" fn goarfleki_check(
 // The check of a card image that is only read: a row image is made over a copy.
 fn check_copy(image: &[u8], marks: &mut [u8], numbers: &mut [u16]) -> Result<Counts, Refusal>
     requires { length image.now % 64 ≡ 0 }
-    ensures { ChecksImage image.now marks.old marks.new numbers.old numbers.new result }
+    ensures { ChecksRows image.now marks.old marks.new numbers.old numbers.new result }
 {
     let mut copy = [0; LONGEST];
     let Some(rows) = copy.get_mut(..image.len()) else {
-        return Err(Refusal::NoHeader); // so many sectors have no valid header
+        return check_too_many(image, marks, numbers);
     };
     rows.copy_from_slice(image);
     match RowImage::new(rows) {
         Ok(mut card) => check(&mut card, marks, numbers),
         Err(_) => unreachable!(),
     }
+}
+
+// How many sectors a row image has over these bytes: their count has 32 bits.
+fn sectors_of(image: &[u8]) -> u32
+    ensures { result ≡ row_count 64 image.now }
+{
+    u32::try_from(image.len() / ROW).unwrap_or(u32::MAX)
+}
+
+// The check of more sectors than a card may have: no header is valid there.
+fn check_too_many(image: &[u8], marks: &mut [u8], numbers: &mut [u16]) -> Result<Counts, Refusal>
+    requires whole { length image.now % 64 ≡ 0 }
+    requires long { 65536 < length image.now }
+    ensures { ChecksRows image.now marks.old marks.new numbers.old numbers.new result }
+{
+    let wanted = HANDLES as usize * sectors_of(image) as usize;
+    if marks.len() < wanted || numbers.len() < wanted {
+        return Err(Refusal::ShortMemory);
+    }
+    marks[..wanted].fill(0);
+    numbers[..wanted].fill(0);
+    Err(Refusal::NoHeader)
 }
 
 // The number that is returned for an answer.

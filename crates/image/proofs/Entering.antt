@@ -1,11 +1,11 @@
 -- What a position of the log is, by the record that its bytes are.
 -- Assumes nothing.
-use Rattle.std.proofs.Common.{◌≡◌, ◌≢◌, ℕ, ◌+◌, ◌^◌, ◌<◌, ◌≤◌, ◌⊎◌, List, inl, inr}
+use Rattle.std.proofs.Common.{◌≡◌, ◌≢◌, ℕ, ◌+◌, ◌^◌, ◌<◌, ◌⊎◌, List, inl, inr}
 use Rattle.device.specs.Sector.{payload, Image}
 use Rattle.layout.specs.declared.header.Header.{Header}
 use Rattle.layout.specs.Geometries.{IsPage}
-use Rattle.layout.specs.Records.{page_record_bytes, commit_record_bytes, most_records}
-use Rattle.image.specs.declared.entry.Entry.TheVariants.{Page, Commit, End}
+use Rattle.layout.specs.Records.{page_record_bytes, commit_record_bytes}
+use Rattle.image.specs.declared.entry.Entry.TheVariants.{Page, End}
 use Rattle.image.specs.Reading.{other_epoch, other_position}
 use Rattle.image.specs.Entries.{IsEntryAt}
 

@@ -1,6 +1,6 @@
 -- The pages as they are judged, one after another.
 -- Assumes nothing.
-use Rattle.std.proofs.Common.{◌≡◌, ℕ, ◌+◌, ◌-◌, ◌<◌, ◌≤◌, List, [], ◌∷◌, ◌++◌, length, Some, None, Option, MatchOption, Ok, Err, Result, sym, refl, ap, ◌∙◌, subst, inl, inr, arith}
+use Rattle.std.proofs.Common.{◌≡◌, ℕ, ◌+◌, ◌-◌, ◌<◌, ◌≤◌, List, [], ◌∷◌, ◌++◌, length, Some, None, Option, MatchOption, Result, sym, refl, ap, ◌∙◌, subst, inl, inr, arith}
 use Rattle.std.specs.Prelude.{◌↔◌}
 use Rattle.std.proofs.lemmas.List.{get_or_append_left, get_or_push, length_push}
 use Rattle.std.proofs.lemmas.Bool.{cases_lt}
@@ -19,10 +19,11 @@ use Rattle.image.specs.declared.judged.PagesJudged.{PagesJudged}
 use Rattle.image.specs.Logs.{Change}
 use Rattle.image.specs.Heaps.{Heap, HasPage, page_of, free_page, DanglesIn, Dangles, NoneDangles, FirstDangling}
 use Rattle.image.specs.Images.{HasBody, IsPageAt, Shows, FirstFault, Judged}
-use Rattle.image.specs.Stages.{IsReadOf, IsFaultOf, FindsBody, FindsNoBody, FindsPage, FindsNoPage, FindsShown, FindsNoneShown, IsJudgedOf, TellsPageAgain}
+use Rattle.image.specs.Stages.{IsReadOf, IsFaultOf, FindsBody, FindsNoBody, FindsPage, FindsNoPage, FindsShown, FindsNoneShown, IsJudgedOf, division_of, IsJudgedPage, IsAnother}
 use Rattle.image.specs.Looking.{Finds}
 use Rattle.image.specs.Tallies.{page_at, IsTallyOf, IsTallyOfHeap}
-use Rattle.image.proofs.Single.{header_one, log_one, body_one, page_one, page_inside, inside_page}
+use Rattle.image.proofs.Lookings.{finds_less}
+use Rattle.image.proofs.Single.{header_one, log_one, body_one, page_inside, inside_page}
 
 module _ (n : ℕ) (σ : Image) (x : LogRead) (r : IsReadOf n σ x) where
   -- the pages before sector s are lawful, and counted
@@ -177,11 +178,8 @@ module _ (n : ℕ) (σ : Image) (y : PagesJudged) (s : ℕ) (H : Heap) (j : IsJu
   )
 
 -- so the page that is read again is the heap's
-module _ {D : Type 0} (Means : D → Meaning) (ReadMade : D → ℕ → List ℕ → List ℕ → Answer → D → Type 0) (d d' : D) (y : PagesJudged) (s : ℕ) where
-  pub told_again : (r : Result Page Refusal) → IsPage y.log.header.geometry s
+module _ {D : Type 0} (Means : D → Meaning) (ReadMade : D → ℕ → List ℕ → List ℕ → Answer → D → Type 0) (d d' : D) (y : PagesJudged) (s : ℕ) (i : IsPage (division_of y) s) where
+  pub told_again : (r : Result Page Refusal)
       → Finds Means ReadMade d d' (FindsShown (Means d).count (Means d).current y.log s) (λ q. FindsNoneShown (Means d).count (Means d).current y.log s) r
-      → TellsPageAgain Means ReadMade d d' y s r
-  told_again (Ok p) i f =
-      (f.0, (f.1.0, λ H j. ((judged_inside (Means d).count (Means d).current y s H j).0 i, f.1.1 j.read i H j.holds.shows)))
-  told_again (Err q) i (l, inl x) = (l, inl x)
-  told_again (Err q) i (l, inr x) = (l, inr (λ H j. absurd (x.1 j.read i H j.holds.shows)))
+      → Finds Means ReadMade d d' (IsJudgedPage (Means d).count (Means d).current y s) (λ q. IsAnother (Means d).count (Means d).current y) r
+  told_again r = finds_less Means ReadMade _ _ _ _ r d d' (λ p f H j. f j.read i H j.holds.shows) (λ q f H j. f j.read i H j.holds.shows)

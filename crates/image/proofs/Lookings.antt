@@ -101,22 +101,22 @@ module _ {D : Type 0} (Means : D → Meaning) (ReadMade : D → ℕ → List ℕ
 
   -- a value, or else a refusal
   pub finds_or : {A : Type 0} (T : A → Type 0) (E : Refusal → Type 0) (o : Option A) (q : Refusal) (r : Result A Refusal) (d e : D) → r ≡ ok_or o q
-      → Looked Means ReadMade d e → (Means e).on ≡ true → MatchOption o (E q) T → Finds Means ReadMade d e T E r
-  finds_or T E None q r d e z l on x = rw z (l, inr (on, x))
-  finds_or T E (Some a) q r d e z l on x = rw z (l, (on, x))
+      → Looked Means ReadMade d e → (Means e).on ≡ true → q ≢ TurnedOff → MatchOption o (E q) T → Finds Means ReadMade d e T E r
+  finds_or T E None q r d e z l on ne x = rw z (l, inr (on, x, ne))
+  finds_or T E (Some a) q r d e z l on ne x = rw z (l, (on, x))
 
   -- the same call says less
   pub finds_less : {A : Type 0} (T T' : A → Type 0) (E E' : Refusal → Type 0) (r : Result A Refusal) (d e : D) → ((a : A) → T a → T' a) → ((q : Refusal) → E q → E' q)
       → Finds Means ReadMade d e T E r → Finds Means ReadMade d e T' E' r
   finds_less T T' E E' (Ok a) d e f g x = (x.0, (x.1.0, f a x.1.1))
   finds_less T T' E E' (Err q) d e f g (l, inl x) = (l, inl x)
-  finds_less T T' E E' (Err q) d e f g (l, inr x) = (l, inr (x.0, g q x.1))
+  finds_less T T' E E' (Err q) d e f g (l, inr x) = (l, inr (x.0, g q x.1, x.2))
 
   -- a second call is refused: the device is off, or what is so of the refusal is so of the first device's image
   pub refused_then : {A : Type 0} (T : A → Type 0) (E : Refusal → Type 0) (F : ℕ → Image → Type 0) (r : Result A Refusal) (q : Refusal) (d e f : D) → Looked Means ReadMade d e
-      → Looked Means ReadMade e f × (((q ≡ TurnedOff) × ((Means f).on ≡ false)) ⊎ (((Means f).on ≡ true) × F (Means e).count (Means e).current))
+      → Looked Means ReadMade e f × (((q ≡ TurnedOff) × ((Means f).on ≡ false)) ⊎ (((Means f).on ≡ true) × F (Means e).count (Means e).current × (q ≢ TurnedOff)))
       → IsErrAnd r (λ p. p ≡ q) → (F (Means d).count (Means d).current → E q) → Finds Means ReadMade d f T E r
   refused_then T E F (Ok a) q d e f l m z k = absurd z
   refused_then T E F (Err p) q d e f l (m, inl (x, off)) z k = (looked_then d e f l m, inl (z ∙ x, off))
-  refused_then T E F (Err p) q d e f l (m, inr (on, x)) z k =
-      (looked_then d e f l m, inr (on, subst E (sym z) (k (carried F d e l (on_before e f m on) x))))
+  refused_then T E F (Err p) q d e f l (m, inr (on, x, ne)) z k =
+      (looked_then d e f l m, inr (on, subst E (sym z) (k (carried F d e l (on_before e f m on) x)), λ w. ne (sym z ∙ w)))

@@ -1,6 +1,6 @@
 -- A heap: pages with objects that refer to one another.
 -- Assumes nothing.
-use Rattle.std.specs.Prelude.{◌≡◌, ◌≢◌, ℕ, ◌+◌, ◌-◌, ◌<◌, ◌≤◌, Bool, true, false, ◌↔◌, List, length, replicate, count_by, slice_index_or, ◌==◌}
+use Rattle.std.specs.Prelude.{◌≡◌, ◌≢◌, ℕ, ◌+◌, ◌-◌, ◌<◌, ◌≤◌, Bool, true, false, ◌↔◌, List, length, replicate, count_by, slice_index_or}
 use Rattle.std.specs.List.{AllPairs, Contains, sum_by}
 use Rattle.layout.specs.declared.class.Class.{Class}
 use Rattle.layout.specs.declared.class.Class.TheVariants.{Free}
@@ -9,7 +9,7 @@ use Rattle.layout.specs.declared.word.Word.TheVariants.{Number, Reference}
 use Rattle.layout.specs.declared.page.Page.{Page}
 use Rattle.layout.specs.Classes.{Takes}
 use Rattle.layout.specs.Handles.{sector_of, slot_of}
-use Rattle.layout.specs.Pages.{IsUsed, word_at, Lawful}
+use Rattle.layout.specs.Pages.{IsUsed, word_at}
 use Rattle.image.specs.declared.counts.Counts.{Counts}
 
 -- how many transactions it has seen, the sector of its root page, and its pages, the root page first

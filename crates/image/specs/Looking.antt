@@ -1,5 +1,5 @@
 -- Calls that only read a device. `Means` is what a device means, and `ReadMade` what a read of its own does. Assumes nothing.
-use Rattle.std.specs.Prelude.{◌≡◌, ℕ, true, false, ◌⊎◌, List, Result, MatchResult}
+use Rattle.std.specs.Prelude.{◌≡◌, ◌≢◌, ℕ, true, false, ◌⊎◌, List, Result, MatchResult}
 use Rattle.device.specs.Faults.{Answer}
 use Rattle.device.specs.Rules.{Meaning, ReadCall, CountStays, NoneAdded, Unchanged}
 use Rattle.image.specs.declared.reading.Off.{Off}
@@ -23,7 +23,7 @@ pub record OnlyReads (m m' : Meaning) : Type 0 where
 abbrev pub Tells : {D A : Type 0} → (D → Meaning) → (D → ℕ → List ℕ → List ℕ → Answer → D → Type 0) → D → D → (A → Type 0) → Result A Off → Type 0
 Tells Means ReadMade d d' T r = Looked Means ReadMade d d' × MatchResult r (λ a. ((Means d').on ≡ true) × T a) (λ _. (Means d').on ≡ false)
 
--- The same of a call that may be refused: the device is on, and E is so of the refusal; or the refusal is that the device is off.
+-- The same of a call that may be refused. It answers that the device is off exactly if it is; of any other refusal E is so.
 abbrev pub Finds : {D A : Type 0} → (D → Meaning) → (D → ℕ → List ℕ → List ℕ → Answer → D → Type 0) → D → D → (A → Type 0) → (Refusal → Type 0) → Result A Refusal → Type 0
 Finds Means ReadMade d d' T E r = Looked Means ReadMade d d'
-    × MatchResult r (λ a. ((Means d').on ≡ true) × T a) (λ q. ((q ≡ TurnedOff) × ((Means d').on ≡ false)) ⊎ (((Means d').on ≡ true) × E q))
+    × MatchResult r (λ a. ((Means d').on ≡ true) × T a) (λ q. ((q ≡ TurnedOff) × ((Means d').on ≡ false)) ⊎ (((Means d').on ≡ true) × E q × (q ≢ TurnedOff)))

@@ -1,10 +1,9 @@
 -- What the stages of an opening know of an image.
 -- Assumes nothing.
-use Rattle.std.specs.Prelude.{◌≡◌, ◌≢◌, ℕ, ◌+◌, ◌⊎◌, List, [], ◌∷◌, ◌++◌, length, map, take, count_by, slice_index_or, true, false, Option, Some, None, Result, MatchResult}
+use Rattle.std.specs.Prelude.{◌≡◌, ◌≢◌, ℕ, ◌+◌, ◌⊎◌, List, [], ◌∷◌, ◌++◌, length, map, take, count_by, slice_index_or, Option, Some, None}
 use Rattle.std.specs.List.{sum_by}
-use Rattle.device.specs.Faults.{Answer}
-use Rattle.device.specs.Rules.{Meaning}
 use Rattle.device.specs.Sector.{payload, torn, Image}
+use Rattle.layout.specs.declared.geometry.Geometry.{Geometry}
 use Rattle.layout.specs.declared.header.Header.{Header}
 use Rattle.image.specs.declared.headers.HeadersRead.{HeadersRead}
 use Rattle.image.specs.declared.log.LogRead.{LogRead}
@@ -16,10 +15,9 @@ use Rattle.layout.specs.declared.page.Page.{Page}
 use Rattle.layout.specs.Geometries.{root_of, IsPage}
 use Rattle.layout.specs.Homes.{home_bytes}
 use Rattle.image.specs.declared.refusal.Refusal.{Refusal}
-use Rattle.image.specs.declared.refusal.Refusal.TheVariants.{Off, Torn, OutOfRange, NoHeader, LaterEpoch, Unlawful}
+use Rattle.image.specs.declared.refusal.Refusal.TheVariants.{Torn, NoHeader, LaterEpoch, Unlawful}
 use Rattle.image.specs.declared.judged.PagesJudged.{PagesJudged}
-use Rattle.image.specs.Heaps.{Heap, HasPage, page_of, is_free, objects_of}
-use Rattle.image.specs.Looking.{Looked}
+use Rattle.image.specs.Heaps.{Heap, page_of, is_free, objects_of}
 use Rattle.image.specs.Images.{Reads, HasBody, IsPageAt, IsTornHome, Shows, Holds}
 
 abbrev pub header_of : HeadersRead → Header
@@ -37,6 +35,9 @@ TellsNoHeader n σ q = (q ≡ NoHeader) × ((h : Header) → ¬ IsHeaderIn n σ 
 
 abbrev pub TellsLater : Image → Header → Refusal → Type 0
 TellsLater σ h q = (s : ℕ) × (q ≡ LaterEpoch s) × FirstLater σ h s
+
+abbrev pub judged_log : PagesJudged → LogRead
+judged_log x = x.log
 
 -- the homes of page records, in their order
 abbrev pub homes_in : List Change → List (Option ℕ)
@@ -121,9 +122,14 @@ pub record IsJudgedOf (n : ℕ) (σ : Image) (H : Heap) (x : PagesJudged) : Type
   pub transactions : x.log.transactions ≡ H.transactions
   pub root : root_of x.log.header.geometry ≡ H.root
 
--- A call asks for the page of sector s again, from the device d to d', where x is what was judged of the image: it only reads. It tells the
--- heap's page; or it answers that the device is off, and so it is; or the sector is no page's, and nothing is read.
-abbrev pub TellsPageAgain : {D : Type 0} → (D → Meaning) → (D → ℕ → List ℕ → List ℕ → Answer → D → Type 0) → D → D → PagesJudged → ℕ → Result Page Refusal → Type 0
-TellsPageAgain Means ReadMade d d' x s r = Looked Means ReadMade d d'
-    × MatchResult r (λ p. ((Means d').on ≡ true) × ((H : Heap) → IsJudgedOf (Means d).count (Means d).current H x → HasPage H s × (p ≡ page_of H s)))
-    (λ q. ((q ≡ Off) × ((Means d').on ≡ false)) ⊎ ((H : Heap) → IsJudgedOf (Means d).count (Means d).current H x → (q ≡ OutOfRange) × (¬ HasPage H s) × (d' ≡ d)))
+-- how the card is divided whose pages were judged
+abbrev pub division_of : PagesJudged → Geometry
+division_of x = x.log.header.geometry
+
+-- p is the page of sector s of the heap that was judged
+abbrev pub IsJudgedPage : ℕ → Image → PagesJudged → ℕ → Page → Type 0
+IsJudgedPage n σ x s p = (H : Heap) → IsJudgedOf n σ H x → p ≡ page_of H s
+
+-- the image is not the one that was judged
+abbrev pub IsAnother : ℕ → Image → PagesJudged → Type 0
+IsAnother n σ x = (H : Heap) → ¬ IsJudgedOf n σ H x

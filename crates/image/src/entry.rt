@@ -7,7 +7,7 @@ ghost use Rattle.image.specs.Entries.{IsEntryAt};
 use crate::Off;
 use crate::reading::look;
 use device::{Device, PAYLOAD};
-use layout::{Header, Record};
+use layout::{Header, LOG, Record};
 
 /// A record of the header's epoch at its own position, or the log's end.
 #[derive(Clone, Copy, Debug, PartialEq, Eq)]
@@ -26,7 +26,7 @@ pub(crate) fn entry_at<D: Device>(
     ensures { Tells D.means D.reads device.old device.new (λ e. 2 + position < (D.means device.old).count
         → IsEntryAt (D.means device.old).current header position e) result }
 {
-    Ok(match look(device, 2 + u32::from(position))? {
+    Ok(match look(device, LOG + u32::from(position))? {
         Some(bytes) => entry_of(&bytes, header, position),
         None => Entry::End,
     })

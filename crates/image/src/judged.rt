@@ -1,8 +1,9 @@
 //! The third stage of an opening: the pages are judged.
-ghost use Rattle.std.specs.Prelude.{◌≡◌, ℕ, MatchOption, count_by};
+ghost use Rattle.std.specs.Prelude.{◌≡◌, ℕ, ◌↔◌, Err, MatchOption, count_by};
 ghost use Rattle.std.specs.List.{sum_by};
 ghost use Rattle.device.specs.Sector.{Image};
-ghost use Rattle.image.specs.Heaps.{Heap, is_free, objects_of, NoneDangles, FirstDangling};
+ghost use Rattle.layout.specs.Geometries.{IsPage};
+ghost use Rattle.image.specs.Heaps.{Heap, HasPage, is_free, objects_of, NoneDangles, FirstDangling};
 ghost use Rattle.image.specs.Examples.{WorkedExamples};
 ghost use Rattle.image.specs.Looking.{Finds};
 ghost use Rattle.image.specs.Images.{Judged, Shows, AtMostOneHeap, AtMostOneRefusal, NotBoth, AlwaysOne};
@@ -26,13 +27,13 @@ pub struct PagesJudged {
 }
 
 impl PagesJudged {
-    ghost use Rattle.image.specs.Stages.{IsJudgedOf, TellsPageAgain};
+    ghost use Rattle.image.specs.Stages.{IsJudgedOf, judged_log, division_of, IsJudgedPage, IsAnother};
 
     /// Judges the pages by the log that was read.
     pub fn judge<D: Device>(device: &mut D, log: LogRead) -> Result<PagesJudged, Refusal>
         ensures judged { Finds D.means D.reads device.old device.new
-            (λ x. IsReadOf (D.means device.old).count (D.means device.old).current log
-            → (H : Heap) × IsJudgedOf (D.means device.old).count (D.means device.old).current H x)
+            (λ x. (judged_log x ≡ log) × (IsReadOf (D.means device.old).count (D.means device.old).current log
+            → (H : Heap) × IsJudgedOf (D.means device.old).count (D.means device.old).current H x))
             (λ q. IsReadOf (D.means device.old).count (D.means device.old).current log
             → Judged (D.means device.old).count (D.means device.old).current q) result }
         ensures one_heap { AtMostOneHeap }
@@ -45,11 +46,11 @@ impl PagesJudged {
         PagesJudged::by_log(device, log)
     }
 
-    // Judges them: first each page, then each reference.
+    // Judges them: first each page, then each reference. The theorems about all images stand with the call that other crates make.
     fn by_log<D: Device>(device: &mut D, log: LogRead) -> Result<PagesJudged, Refusal>
         ensures { Finds D.means D.reads device.old device.new
-            (λ x. IsReadOf (D.means device.old).count (D.means device.old).current log
-            → (H : Heap) × IsJudgedOf (D.means device.old).count (D.means device.old).current H x)
+            (λ x. (judged_log x ≡ log) × (IsReadOf (D.means device.old).count (D.means device.old).current log
+            → (H : Heap) × IsJudgedOf (D.means device.old).count (D.means device.old).current H x))
             (λ q. IsReadOf (D.means device.old).count (D.means device.old).current log
             → Judged (D.means device.old).count (D.means device.old).current q) result }
     {
@@ -94,7 +95,13 @@ impl PagesJudged {
 
     /// Reads the page of a sector again. A sector that is no page's is out of range, and then nothing is read.
     pub fn page<D: Device>(&self, device: &mut D, sector: u32) -> Result<Page, Refusal>
-        ensures { TellsPageAgain D.means D.reads device.old device.new self.now sector result }
+        ensures outside { ¬ IsPage (division_of self.now) sector
+            → (result ≡ Err Refusal.OutOfRange) × (device.new ≡ device.old) }
+        ensures inside { IsPage (division_of self.now) sector → Finds D.means D.reads device.old device.new
+            (IsJudgedPage (D.means device.old).count (D.means device.old).current self.now sector)
+            (λ q. IsAnother (D.means device.old).count (D.means device.old).current self.now) result }
+        ensures pages { (n : ℕ) (σ : Image) (H : Heap) → IsJudgedOf n σ H self.now
+            → IsPage (division_of self.now) sector ↔ HasPage H sector }
     {
         if !self.log.header().geometry.has_page(sector) {
             return Err(Refusal::OutOfRange);

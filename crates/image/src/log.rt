@@ -13,7 +13,7 @@ use crate::headers::HeadersRead;
 use crate::reading::look;
 use crate::{Off, Refusal};
 use device::Device;
-use layout::{Header, MOST_LOG, MOST_SECTORS, shown_epoch};
+use layout::{Header, LOG, MOST_LOG, MOST_SECTORS, shown_epoch};
 
 /// The most positions that a log has.
 const LONGEST_LOG: usize = MOST_LOG as usize;
@@ -39,8 +39,9 @@ impl LogRead {
     /// Reads the log under the header that was read.
     pub fn read<D: Device>(device: &mut D, headers: HeadersRead) -> Result<LogRead, Refusal>
         ensures { Finds D.means D.reads device.old device.new
-            (λ x. IsHeaderOf (D.means device.old).count (D.means device.old).current (header_of headers)
-            → IsReadOf (D.means device.old).count (D.means device.old).current x)
+            (λ x. (log_header x ≡ header_of headers)
+            × (IsHeaderOf (D.means device.old).count (D.means device.old).current (header_of headers)
+            → IsReadOf (D.means device.old).count (D.means device.old).current x))
             (λ q. IsHeaderOf (D.means device.old).count (D.means device.old).current (header_of headers)
             → TellsLater (D.means device.old).current (header_of headers) q) result }
     {
@@ -62,7 +63,7 @@ impl LogRead {
     pub fn transactions(&self) -> u32
         ensures { result ≡ log_transactions self.now }
     {
-        self.transactions // of the last commit
+        self.transactions // as the last commit record left it
     }
 
     /// The position of the last committed record for the page of a sector, if there is one.
@@ -81,8 +82,9 @@ impl LogRead {
 
     // Reads the log position by position, up to its end.
     fn scan<D: Device>(device: &mut D, header: Header) -> Result<LogRead, Off>
-        ensures { Tells D.means D.reads device.old device.new (λ x. header.geometry.sectors ≡ (D.means device.old).count
-            → HasReadAll (D.means device.old).current header x) result }
+        ensures { Tells D.means D.reads device.old device.new (λ x. (log_header x ≡ header)
+            × (header.geometry.sectors ≡ (D.means device.old).count
+            → HasReadAll (D.means device.old).current header x)) result }
     {
         let mut log = LogRead::new(header);
         for position in 0..header.geometry.log {
@@ -96,7 +98,8 @@ impl LogRead {
 
     // A log of which nothing has been read.
     fn new(header: Header) -> LogRead
-        ensures { (σ : Image) → HasRead σ header 0 result }
+        ensures read { (σ : Image) → HasRead σ header 0 result }
+        ensures header { log_header result ≡ header }
     {
         LogRead {
             header,
@@ -110,25 +113,27 @@ impl LogRead {
     // Takes up what stands at the next position; false if the log ends before it.
     fn take_up(&mut self, position: u16, entry: Entry) -> bool
         requires { position < 64 }
-        ensures { (σ : Image) (h : AHeader) → position < h.geometry.log → HasRead σ h position self.old → IsEntryAt σ h position entry
+        ensures taken { (σ : Image) (h : AHeader) → position < h.geometry.log → HasRead σ h position self.old → IsEntryAt σ h position entry
             → MatchBool result (HasRead σ h (position + 1) self.new) (HasReadAll σ h self.new) }
+        ensures kept { log_header self.new ≡ log_header self.old }
     {
         match entry {
             Entry::Page { home } => {
-                name(&mut self.named, home);
+                note_home(&mut self.named, home);
                 self.homes[usize::from(position)] = Some(home);
                 true
             }
-            Entry::Commit { pages, number } => self.commits(position, pages, number),
+            Entry::Commit { pages, number } => self.take_commit(position, pages, number),
             Entry::End => false,
         }
     }
 
-    // Takes up a commit record, if it is the one that may stand there.
-    fn commits(&mut self, position: u16, pages: u32, number: u32) -> bool
+    // Takes up a commit record, if it is the one that may stand there; false if the log ends before it.
+    fn take_commit(&mut self, position: u16, pages: u32, number: u32) -> bool
         requires { position < 64 }
-        ensures { (σ : Image) (h : AHeader) → position < h.geometry.log → HasRead σ h position self.old → IsEntryAt σ h position (Commit pages number)
+        ensures taken { (σ : Image) (h : AHeader) → position < h.geometry.log → HasRead σ h position self.old → IsEntryAt σ h position (Commit pages number)
             → MatchBool result (HasRead σ h (position + 1) self.new) (HasReadAll σ h self.new) }
+        ensures kept { log_header self.new ≡ log_header self.old }
     {
         let pending = position.saturating_sub(self.committed);
         // on wider numbers: none follows the last of 32 bits
@@ -147,14 +152,14 @@ impl LogRead {
 }
 
 // Notes that a position has the home in a sector.
-fn name(named: &mut [bool; MOST_SECTORS], sector: u32)
+fn note_home(named: &mut [bool; MOST_SECTORS], sector: u32)
     ensures noted { IsTrue (slice_index_or named.new sector true) }
     ensures kept { (s : ℕ) → IsTrue (slice_index_or named.old s true) → IsTrue (slice_index_or named.new s true) }
 {
     let at = sector as usize;
     if at < MOST_SECTORS {
         named[at] = true;
-    }
+    } // a sector that no card has counts as noted
 }
 
 // The lowest sector of the log that shows an epoch above the header's, if there is one.
@@ -163,7 +168,7 @@ fn first_later<D: Device>(device: &mut D, header: Header) -> Result<Option<u32>,
         (NoneLater (D.means device.old).current header)
         (FirstLater (D.means device.old).current header)) result }
 {
-    for sector in 2..header.geometry.root() {
+    for sector in LOG..header.geometry.root() {
         if is_later_at(device, header.epoch, sector)? {
             return Ok(Some(sector));
         }

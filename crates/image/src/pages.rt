@@ -9,7 +9,7 @@ use crate::Refusal;
 use crate::log::LogRead;
 use crate::reading::look;
 use device::{Device, PAYLOAD};
-use layout::{Home, Page, body_of};
+use layout::{Home, LOG, Page, body_of};
 
 // The lawful page of a sector.
 pub(crate) fn page_of<D: Device>(
@@ -53,7 +53,7 @@ pub(crate) fn page_bytes<D: Device>(
         (FindsNoBody (D.means device.old).count (D.means device.old).current log.now sector) result }
 {
     match log.record_of(sector) {
-        Some(position) => look(device, 2 + position as u32)?.ok_or(Refusal::Torn { sector }),
+        Some(position) => look(device, LOG + position as u32)?.ok_or(Refusal::Torn { sector }),
         None => home_at(device, sector),
     }
 }

@@ -14,6 +14,6 @@ module _ (d d' : RowImage) (ms ms' ns ns' : List ℕ) (long : length ms ≡ 1638
   enough : wanted (rows_mean (memory d)).count ≤ 16384
   enough = omega (arith, few)
 
-  pub told_of : (r : Result Counts Refusal) → Checks d d' (rows_mean (memory d)) (rows_mean (memory d')) ms ms' ns ns' r → ToldOf (memory d) r
+  pub told_of : (r : Result Counts Refusal) → Checks (rows_mean (memory d)) (rows_mean (memory d')) ms ms' ns ns' r → ToldOf (memory d) r
   told_of (Ok k) c = c.3
-  told_of (Err q) c = let e = enough in refused d d' (rows_mean (memory d)) (rows_mean (memory d')) ms ms' ns ns' refl (omega (arith, long, e)) (omega (arith, wide, e)) q c
+  told_of (Err q) c = let e = enough in refused (rows_mean (memory d)) (rows_mean (memory d')) ms ms' ns ns' refl (omega (arith, long, e)) (omega (arith, wide, e)) q c

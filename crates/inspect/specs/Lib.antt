@@ -1,3 +1,4 @@
 pub mod Reports
 pub mod HeapTexts
 pub mod Cards
+pub mod Tellings

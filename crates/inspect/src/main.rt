@@ -4,14 +4,13 @@
 mod card;
 mod heap;
 mod report;
+mod told;
 
 use anyhow::{anyhow, bail};
-use card::check_image;
-use heap::HeapReport;
-use report::Report;
 use std::process::ExitCode;
 use std::{env, fs, io};
-use survey::{Condition, ImageError, LONGEST, SECTORS, survey_image};
+use survey::{Condition, ImageError, LONGEST, SECTORS};
+use told::{Told, told_of};
 
 // The image that is looked at where no other is named.
 const USUAL: &str = "heap.img";
@@ -31,10 +30,8 @@ fn read_image(rt: &HostRuntime, path: &str) -> anyhow::Result<Vec<u8>> {
 fn inspect(rt: &HostRuntime, path: &str) -> anyhow::Result<()> {
     let image = read_image(rt, path)?;
     let mut table = [Condition::Torn; SECTORS];
-    let count = survey_image(image.clone()?, &mut table)?;
-    let report = Report::new(&table[..count]);
-    let heap = HeapReport(check_image(image)?);
-    println!(rt; "{report}")?;
+    let Told { sectors, heap } = told_of(image, &mut table)?;
+    println!(rt; "{sectors}")?;
     println!(rt; "{heap}")?;
     Ok(())
 }

@@ -1,12 +1,11 @@
 -- What a header's bytes tell of it.
-use Rattle.std.proofs.Common.{◌≡◌, ℕ, List, length, slice_index, refl, sym, ◌+◌, ◌≤◌, ◌<◌, ◌^◌, arith}
+use Rattle.std.proofs.Common.{◌≡◌, ℕ, List, sym, ◌+◌, ◌≤◌, ◌<◌, ◌^◌, arith}
 use Rattle.std.proofs.lemmas.Nat.{from_le_bytes-to_le_bytes_2, from_le_bytes-to_le_bytes_4}
 use mathlib.Core.HLevel.{is_prop→PathP}
 use native.Mathlib.Bridge.{le_prop}
 use Rattle.layout.specs.declared.geometry.Geometry.{Geometry}
 use Rattle.layout.specs.declared.header.Header.{Header}
 use Rattle.layout.specs.Numbers.{two_at, four_at}
-use Rattle.layout.proofs.Numbers.{AreBytes, AreBytes-cons, AreBytes-two, AreBytes-four, AreBytes-nil}
 use Rattle.layout.specs.Headers.{header_bytes}
 
 -- the log's length stands in bytes 2 and 3

@@ -1,9 +1,8 @@
 -- What a home's bytes tell of it.
-use Rattle.std.proofs.Common.{◌≡◌, ℕ, ◌<◌, ◌^◌, List, drop, length, slice_index, refl, ap, sym, ◌∙◌, arith}
+use Rattle.std.proofs.Common.{◌≡◌, ℕ, ◌<◌, ◌^◌, List, drop, refl, ap, sym, ◌∙◌}
 use Rattle.std.proofs.lemmas.Nat.{from_le_bytes-to_le_bytes_4}
 use Rattle.layout.specs.Numbers.{four_at}
 use Rattle.layout.specs.Homes.{home_bytes}
-use Rattle.layout.proofs.Numbers.{AreBytes, AreBytes-cons, AreBytes-four}
 
 -- the number of the sector stands in bytes 4 to 7
 pub sector-home_bytes : (s : ℕ) (body : List ℕ) → s < 2 ^ 32 → four_at (home_bytes s body) 4 ≡ s

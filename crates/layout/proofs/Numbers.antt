@@ -2,7 +2,7 @@
 use Rattle.std.proofs.Common.{◌≡◌, ℕ, zero, suc, ◌<◌, List, [], ◌∷◌, ◌++◌, get_or, refl, arith}
 use Rattle.std.specs.Int.{w16, w32, from_le_bytes}
 use Rattle.std.proofs.lemmas.Nat.{le_bytes_2, le_bytes_4}
-use Rattle.layout.specs.Numbers.{two, four, zeros}
+use Rattle.layout.specs.Numbers.{two, four}
 
 -- each element is below 256
 pub record AreBytes (xs : List ℕ) : Type 0 where

@@ -1,8 +1,7 @@
 -- One body has one page.
 use Rattle.std.proofs.Common.{◌≡◌, ℕ, zero, suc, ◌^◌, ◌<◌, ◌≤◌, List, [], ◌∷◌}
-use Rattle.std.proofs.Common.{length, get_or, slice_index, drop, map, ap, sym, ◌∙◌, refl, arith}
+use Rattle.std.proofs.Common.{length, get_or, drop, map, ap, sym, ◌∙◌, refl, arith}
 use Rattle.std.proofs.Math.ListN.{get_or-map}
-use Rattle.std.proofs.lemmas.List.{length-map}
 use Rattle.layout.specs.declared.class.Class.{Class}
 use Rattle.layout.specs.declared.class.Class.TheVariants.{Free, One, Two, Three, Five, Ten, Root}
 use Rattle.layout.specs.declared.word.Word.TheVariants.{Number}

@@ -1,9 +1,9 @@
 -- What a record's bytes tell of it.
-use Rattle.std.proofs.Common.{◌≡◌, ◌≢◌, ℕ, ◌<◌, ◌^◌, List, drop, length, slice_index, refl, ap, sym, ◌∙◌, arith}
+use Rattle.std.proofs.Common.{◌≡◌, ◌≢◌, ℕ, ◌<◌, ◌^◌, List, drop, refl, ap, sym, ◌∙◌}
 use Rattle.std.proofs.lemmas.Nat.{from_le_bytes-to_le_bytes_2, from_le_bytes-to_le_bytes_4}
 use Rattle.layout.specs.Numbers.{two_at, four_at}
 use Rattle.layout.specs.Records.{page_record_bytes, commit_record_bytes}
-use Rattle.layout.proofs.Numbers.{two-read, four-read, AreBytes, AreBytes-cons, AreBytes-two, AreBytes-four, AreBytes-nil}
+use Rattle.layout.proofs.Numbers.{two-read, four-read}
 
 -- the epoch of a page record stands in bytes 4 to 7
 pub epoch-page_record_bytes : (e p s : ℕ) (body : List ℕ) → e < 2 ^ 32 → four_at (page_record_bytes e p s body) 4 ≡ e

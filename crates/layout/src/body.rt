@@ -9,7 +9,7 @@ ghost use Rattle.layout.specs.Bodies.{marks, kinds};
 use crate::{BODY, DATA_WORDS, Handle, PAYLOAD, Word};
 
 /// The words of a body, two of head and the data words.
-pub const WORDS: usize = 2 + DATA_WORDS;
+pub(crate) const WORDS: usize = 2 + DATA_WORDS;
 
 /// The bytes of the body in a sector with a page: the last ones of it.
 pub fn body_of(bytes: &[u8; PAYLOAD]) -> &[u8; BODY]
@@ -22,7 +22,7 @@ pub fn body_of(bytes: &[u8; PAYLOAD]) -> &[u8; BODY]
 }
 
 // The words that have these bytes.
-pub fn words_of(bytes: &[u8; BODY]) -> [u32; WORDS]
+pub(crate) fn words_of(bytes: &[u8; BODY]) -> [u32; WORDS]
     ensures { flat_map four result ≡ bytes.now }
 {
     let mut words = [0; WORDS];
@@ -34,7 +34,7 @@ pub fn words_of(bytes: &[u8; BODY]) -> [u32; WORDS]
 }
 
 // The bytes of these words.
-pub fn bytes_of(words: &[u32; WORDS]) -> [u8; BODY]
+pub(crate) fn bytes_of(words: &[u32; WORDS]) -> [u8; BODY]
     ensures bytes { result ≡ flat_map four words.now }
     ensures fit { (k : ℕ) → slice_index words.now k < 2 ^ 32 }
 {
@@ -46,7 +46,7 @@ pub fn bytes_of(words: &[u32; WORDS]) -> [u8; BODY]
 }
 
 // The head word with these marks, and the code above them.
-pub fn marks_of(used: &[bool; DATA_WORDS], code: u32) -> u32
+pub(crate) fn marks_of(used: &[bool; DATA_WORDS], code: u32) -> u32
     requires { code < 8 }
     ensures { result ≡ marks used.now code }
 {
@@ -58,7 +58,7 @@ pub fn marks_of(used: &[bool; DATA_WORDS], code: u32) -> u32
 }
 
 // The marks in a head word, and what is above them.
-pub fn read_marks(head: u32) -> ([bool; DATA_WORDS], u32)
+pub(crate) fn read_marks(head: u32) -> ([bool; DATA_WORDS], u32)
     ensures { marks result.0 result.1 ≡ head }
 {
     let mut used = [false; DATA_WORDS];
@@ -71,7 +71,7 @@ pub fn read_marks(head: u32) -> ([bool; DATA_WORDS], u32)
 }
 
 // The head word that tells the kinds of these words.
-pub fn kinds_of(words: &[Word; DATA_WORDS]) -> u32
+pub(crate) fn kinds_of(words: &[Word; DATA_WORDS]) -> u32
     ensures { result ≡ kinds words.now }
 {
     let mut head = 0;
@@ -92,7 +92,7 @@ fn word_of(kind: u32, value: u32) -> Word
 }
 
 // The data words of a body with these words, unless one is of no kind.
-pub fn read_words(body: &[u32; WORDS]) -> Option<[Word; DATA_WORDS]>
+pub(crate) fn read_words(body: &[u32; WORDS]) -> Option<[Word; DATA_WORDS]>
     ensures found { IfSome result
         (λ ws. (kinds ws ≡ slice_index body.now 1) × (map value_of ws ≡ drop 2 body.now)) }
     ensures only { (ws : List DataWord) → kinds ws ≡ slice_index body.now 1

@@ -9,6 +9,9 @@ pub const MOST_LOG: u16 = 64;
 /// The most sectors of a card.
 pub const MOST_SECTORS: usize = 1024;
 
+/// The first sector of the log, behind the two headers.
+pub const LOG: u32 = 2;
+
 // Beside its log a card has at least two headers, the root page and a data page.
 const LEAST_REST: u32 = 4;
 
@@ -45,7 +48,7 @@ impl Geometry {
     pub fn root(self) -> u32
         ensures { result ≡ root_of self }
     {
-        u32::from(self.log) + 2
+        LOG + u32::from(self.log)
     }
 
     /// Whether a page has its home in this sector.

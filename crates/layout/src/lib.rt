@@ -15,7 +15,7 @@ mod word;
 
 pub use body::body_of;
 pub use class::Class;
-pub use geometry::{Geometry, LEAST_LOG, MOST_LOG, MOST_SECTORS};
+pub use geometry::{Geometry, LEAST_LOG, LOG, MOST_LOG, MOST_SECTORS};
 pub use handle::{HANDLES, Handle};
 pub use header::Header;
 pub use home::Home;

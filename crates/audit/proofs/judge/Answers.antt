@@ -1,13 +1,13 @@
 -- Each stage takes up what the one before it found of the same image.
 -- Assumes nothing.
-use Rattle.std.proofs.Common.{sym, subst}
+use Rattle.std.proofs.Common.{◌≡◌, sym, subst}
 use Rattle.image.specs.declared.refusal.Refusal.{Refusal}
 use Rattle.image.specs.declared.judged.PagesJudged.{PagesJudged}
 use Rattle.image.specs.Heaps.{Heap}
 use Rattle.image.specs.Headers.{IsHeaderOf}
 use Rattle.image.specs.Images.{Judged}
 use Rattle.image.specs.Looking.{none}
-use Rattle.image.specs.Stages.{header_of, TellsNoHeader, TellsLater, IsReadOf, IsJudgedOf}
+use Rattle.image.specs.Stages.{header_of, log_header, judged_log, TellsNoHeader, TellsLater, IsReadOf, IsJudgedOf}
 use Rattle.image.proofs.Lookings.{tells_then, refused_then, finds_less}
 use Rattle.audit.proofs.Following.{finds_then}
 use Rattle.audit.proofs.judge.Goals as goal
@@ -31,7 +31,8 @@ pub returns : goal.returns
 returns g c =
     let h = c.in_ok-headers.ensures in
     let x = c.in_ok-log.log in
-    let t = tells_then _ _ (λ n σ. IsHeaderOf n σ (header_of c.in_ok-headers.headers) → IsReadOf n σ x) _ _ _ h.0 c.in_ok-log.ensures in
-    finds_less _ _ _ _ _ _ _ _ _ (λ y f. f (t.1.1 h.1.1)) (λ q f. f (t.1.1 h.1.1))
-    (finds_then _ _ (λ n σ (y : PagesJudged). IsReadOf n σ x → (H : Heap) × IsJudgedOf n σ H y)
+    let k = header_of c.in_ok-headers.headers in
+    let t = tells_then _ _ (λ n σ. (log_header x ≡ k) × (IsHeaderOf n σ k → IsReadOf n σ x)) _ _ _ h.0 c.in_ok-log.ensures in
+    finds_less _ _ _ _ _ _ _ _ _ (λ y f. f.1 (t.1.1.1 h.1.1)) (λ q f. f (t.1.1.1 h.1.1))
+    (finds_then _ _ (λ n σ (y : PagesJudged). (judged_log y ≡ x) × (IsReadOf n σ x → (H : Heap) × IsJudgedOf n σ H y))
     (λ n σ (q : Refusal). IsReadOf n σ x → Judged n σ q) _ _ _ _ t.0 c.judge.ensures.judged)

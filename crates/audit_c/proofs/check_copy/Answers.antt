@@ -1,6 +1,6 @@
 -- The copy holds the image's bytes, and the check only reads it.
 -- Assumes nothing.
-use Rattle.std.proofs.Common.{◌≡◌, ◌≤◌, ◌∙◌, length, inr, arith, rules}
+use Rattle.std.proofs.Common.{◌≡◌, rules}
 use Rattle.media.specs.Cards.{memory}
 use Rattle.audit_c.proofs.Same.{same, checked}
 use Rattle.audit_c.proofs.check_copy.Goals as goal
@@ -8,5 +8,4 @@ use Rattle.audit_c.proofs.check_copy.Goals as goal
 pub returns : goal.returns
 returns c =
     let bytes : memory c.in-Ok.card ≡ c.args.image.now = search rules in
-    let few : length c.args.image.now ≤ 65536 = omega (arith, c.in-Some.ensures.lookup.0) in
-    inr (few, (c.in-Ok.card, bytes, checked _ _ _ _ _ _ _ _ (same _ _ c.check.ensures.looked) bytes c.check.ensures.checked))
+    checked _ _ _ _ _ _ _ _ (same _ _ c.check.ensures.looked) bytes c.check.ensures.checked

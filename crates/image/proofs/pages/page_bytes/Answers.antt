@@ -8,7 +8,7 @@ pub returns-in_ok-look-in-Some : goal.returns-in_ok-look-in-Some
 returns-in_ok-look-in-Some g c =
     let l = c.in_ok-look-in-Some.ensures in
     let m = g.D.Device.means c.args.device.now in
-    finds_or _ _ _ _ _ _ _ _ _ c.ok_or.ensures.value l.0 l.1.0 (covered_finds m.count m.current c.args.log.now c.args.sector c.in-Some.position _ c.in-Some.ensures l.1.1)
+    finds_or _ _ _ _ _ _ _ _ _ c.ok_or.ensures.value l.0 l.1.0 (λ e. cc) (covered_finds m.count m.current c.args.log.now c.args.sector c.in-Some.position _ c.in-Some.ensures l.1.1)
 
 pub returns-in-None : goal.returns-in-None
 returns-in-None g c =

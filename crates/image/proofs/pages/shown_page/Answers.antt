@@ -18,6 +18,6 @@ pub returns : goal.returns
 returns g c =
     let l = c.in_ok-bytes.ensures in
     let m = g.D.Device.means c.args.device.now in
-    finds_or _ _ _ _ _ _ _ _ _ c.ok_or.ensures.value l.0 l.1.0
+    finds_or _ _ _ _ _ _ _ _ _ c.ok_or.ensures.value l.0 l.1.0 (λ e. cc)
     (shown_finds m.count m.current c.args.log.now c.args.sector _ _
     (subst (λ (b : List ℕ). FindsBody m.count m.current c.args.log.now c.args.sector b) (sym c.body_of.ensures) l.1.1) c.decode-page.ensures.only)

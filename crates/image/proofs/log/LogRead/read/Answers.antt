@@ -3,7 +3,7 @@
 use Rattle.std.proofs.Common.{◌≡◌, refl, inr, ap, ◌∙◌, subst}
 use Rattle.layout.specs.declared.header.Header.{Header}
 use Rattle.image.specs.Headers.{FirstLater}
-use Rattle.image.specs.Stages.{HasReadAll}
+use Rattle.image.specs.Stages.{log_header, HasReadAll}
 use Rattle.image.proofs.Lookings.{tells_then, finds_off}
 use Rattle.image.proofs.Taking.{is_read}
 use Rattle.image.proofs.log.LogRead.read.Goals as goal
@@ -18,6 +18,7 @@ returns-in-Some g c =
             let e = c.into_header-header.ensures in
             let m = g.D.Device.means c.args.device.now in
             (c.in-Some.sector, refl, subst (λ (k : Header). FirstLater m.current k c.in-Some.sector) e (z (ap (λ (k : Header). k.geometry.sectors) e ∙ h.valid.0.0))),
+        λ e. cc,
       ),
     )
 
@@ -31,5 +32,14 @@ returns g c =
     let e = c.into_header-header.ensures in
     let m = g.D.Device.means c.args.device.now in
     let none = rw c.in_default.is at t.1.1 in
-    let u = tells_then _ _ (λ n σ. k.geometry.sectors ≡ n → HasReadAll σ k c.in_ok-scan.field-0) _ _ _ t.0 c.in_ok-scan.ensures in
-    (u.0, (u.1.0, λ h. let f = ap (λ (j : Header). j.geometry.sectors) e ∙ h.valid.0.0 in is_read m.count m.current k _ _ e h (none f) (u.1.1 f)))
+    let x = c.in_ok-scan.field-0 in
+    let u = tells_then _ _ (λ n σ. (log_header x ≡ k) × (k.geometry.sectors ≡ n → HasReadAll σ k x)) _ _ _ t.0 c.in_ok-scan.ensures in (
+      u.0,
+      (
+        u.1.0,
+        (
+          u.1.1.0 ∙ e,
+          λ h. let f = ap (λ (j : Header). j.geometry.sectors) e ∙ h.valid.0.0 in is_read m.count m.current k _ _ e h (none f) (u.1.1.1 f),
+        ),
+      ),
+    )

@@ -18,7 +18,7 @@ pub enum Refusal {
     TransactionOpen,
     #[error("the ticket is not that of the open transaction")]
     WrongTicket,
-    #[error("a size, an index or a root is out of range")]
+    #[error("a size, an index, a root or a page's sector is out of range")]
     OutOfRange,
     #[error("the handle has no object")]
     NoObject,

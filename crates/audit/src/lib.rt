@@ -89,6 +89,3 @@ fn judge<D: Device>(device: &mut D) -> Result<PagesJudged, Refusal>
     let log = LogRead::read(device, headers)?;
     PagesJudged::judge(device, log)
 }
-
-#[cfg(test)]
-mod tests;

@@ -72,6 +72,3 @@ impl Header {
         self.geometry.sectors == sectors && self.epoch % 2 == sector
     }
 }
-
-#[cfg(test)]
-mod tests;

@@ -43,6 +43,3 @@ impl<'a> Home<'a> {
         bytes
     }
 }
-
-#[cfg(test)]
-mod tests;

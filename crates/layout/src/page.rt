@@ -164,6 +164,3 @@ fn stands_outside(class: Class, word: Word) -> bool
         Word::Reference(_) => class == Class::Root,
     }
 }
-
-#[cfg(test)]
-mod tests;

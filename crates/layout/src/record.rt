@@ -155,6 +155,3 @@ pub fn shown_epoch(bytes: &[u8; PAYLOAD]) -> Option<u32>
         _ => None,
     }
 }
-
-#[cfg(test)]
-mod tests;

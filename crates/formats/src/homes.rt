@@ -1,4 +1,5 @@
-use super::*;
+//! Homes of pages, byte for byte.
+use layout::{Home, PAYLOAD};
 
 // the home of sector 18 + 2 x 256, with bytes 12 to 59 in its body
 fn sound() -> [u8; PAYLOAD] {

@@ -1,4 +1,5 @@
-use super::*;
+//! Records of the log, byte for byte.
+use layout::{CommitRecord, Geometry, PAYLOAD, PageRecord, Record};
 
 const CARD: Geometry = Geometry {
     sectors: 200,

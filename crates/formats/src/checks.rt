@@ -1,5 +1,8 @@
-use super::*;
-use device::PAYLOAD;
+//! The check of a card, with more and with less memory than it wants.
+use audit::check;
+use device::{Device, PAYLOAD};
+use image::{Counts, Refusal};
+use layout::HANDLES;
 use media::{ROW, RowImage};
 
 const SECTORS: usize = 14;

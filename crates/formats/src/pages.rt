@@ -1,5 +1,5 @@
-use super::*;
-use crate::Handle;
+//! Page bodies, byte for byte, and which pages are lawful.
+use layout::{BODY, Class, DATA_WORDS, Handle, Page, Word};
 
 // The body that is zero but for these bytes.
 fn body(set: &[(usize, u8)]) -> [u8; BODY] {

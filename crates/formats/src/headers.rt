@@ -1,4 +1,5 @@
-use super::*;
+//! Headers of a card, byte for byte.
+use layout::{Geometry, Header, PAYLOAD};
 
 // 200 sectors, 16 of them log, in epoch 1 after 3 + 2 x 256 transactions
 const NAMED: [u8; 16] = [4, 1, 16, 0, 1, 0, 0, 0, 200, 0, 0, 0, 3, 2, 0, 0];

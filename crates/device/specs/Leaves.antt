@@ -1,6 +1,7 @@
 -- Which images a cut can leave after a call, and after two writes and a flush, and which calls those are.
 -- Assumes nothing.
 use Rattle.std.specs.Prelude.{◌≡◌, ℕ, ◌<◌, ◌≤◌, ◌⊎◌, ◌↔◌, List, Ok, ◌≢◌}
+use Rattle.device.specs.declared.Device.{Ghosts}
 use Rattle.device.specs.Faults.{Answer, returned}
 use Rattle.device.specs.Sector.{payload, torn, Image, Possible, Found}
 use Rattle.device.specs.Rules.{Meaning, CountStays, StaysOff, TellsPower, Unchanged, Puts, Settled}
@@ -26,15 +27,17 @@ abbrev pub PutsBoth : ℕ → List ℕ → ℕ → List ℕ → Image → Image 
 PutsBoth s a t b f g = (h : Image) × Puts s a f h × Puts t b h g
 
 -- The calls that are made for it on a device, d before and d' after: the first write, if it is accepted the second, and if that is the
--- flush; the answer is the last one's. `WriteMade` and `FlushMade` tell what the device's own calls do.
-abbrev pub MakesBoth : {D : Type 0} → (D → ℕ → List ℕ → Answer → D → Type 0) → (D → Answer → D → Type 0) → ℕ → List ℕ → ℕ → List ℕ → Answer → D → D → Type 0
-MakesBoth {D} WriteMade FlushMade s a t b r d d' = ((r ≢ Ok tt) × WriteMade d s a r d')
-    ⊎ ((e : D) × WriteMade d s a (Ok tt) e × (((r ≢ Ok tt) × WriteMade e t b r d') ⊎ ((f : D) × WriteMade e t b (Ok tt) f × FlushMade f r d')))
+-- flush; the answer is the last one's.
+abbrev pub MakesBoth : {D : Type 0} → Ghosts D → ℕ → List ℕ → ℕ → List ℕ → Answer → D → D → Type 0
+MakesBoth {D} g s a t b r d d' = ((r ≢ Ok tt) × g.writes d s a r d')
+    ⊎ ((e : D) × g.writes d s a (Ok tt) e
+    × (((r ≢ Ok tt) × g.writes e t b r d') ⊎ ((f : D) × g.writes e t b (Ok tt) f × g.flushes f r d')))
 
--- Two writes and a flush. Accepted, both payloads are current and a cut leaves the current image, and no other; the device is off
--- exactly if the answer is 1. With a sector that is not below the count, and only then, the answer is 2, unless it is 1: if it is the
--- first, nothing is changed and a cut leaves the same images as before; else the first payload is current. Whatever the answer, a cut
--- leaves an image that could be found before, in which each of the two writes happened, did not happen or tore its sector.
+-- Two writes and a flush. Accepted, each of the two sectors has its payload as the current content, or where both are one sector that has
+-- the second; and a cut leaves the current image, and no other. The device is off exactly if the answer is 1. With a sector that is not
+-- below the count, and only then, the answer is 2, unless it is 1: if it is the first, nothing is changed and a cut leaves the same images
+-- as before; else the first payload is current. Whatever the answer, a cut leaves an image that could be found before, in which each of
+-- the two writes happened, did not happen or tore its sector.
 pub record WritesBoth (s : ℕ) (a : List ℕ) (t : ℕ) (b : List ℕ) (r : Answer) (m m' : Meaning) : Type 0 where
   pub count : CountStays m m'
   pub power : TellsPower r m'

@@ -3,6 +3,9 @@ pub mod Refusals
 pub mod Sector
 pub mod Bytes
 pub mod Rules
+pub mod Means
+pub mod Calling
+pub mod Cuts
 pub mod Leaves
 pub mod Waiting
 pub mod Queues

@@ -15,6 +15,21 @@ pub record Meaning : Type 1 where
 abbrev pub meaning : ℕ → Bool → Image → Possible → Meaning
 meaning n o f p = record { count = n; on = o; current = f; possible = p }
 
+-- the same of a device, by what its type says of its devices: `means` is shorter where there is a bound
+abbrev pub means_by : {D : Type 0} → (D → ℕ) → (D → Bool) → (D → Image) → (D → Possible) → D → Meaning
+means_by count on current possible d = meaning (count d) (on d) (current d) (possible d)
+
+-- what a type of device says of each call of its own, in its own terms: of a read by the device before, the sector, the caller's
+-- bytes before and after, the answer, and the device after
+abbrev pub ReadMade : Type 0 → Type 1
+ReadMade D = D → ℕ → List ℕ → List ℕ → Answer → D → Type 0
+
+abbrev pub WriteMade : Type 0 → Type 1
+WriteMade D = D → ℕ → List ℕ → Answer → D → Type 0
+
+abbrev pub FlushMade : Type 0 → Type 1
+FlushMade D = D → Answer → D → Type 0
+
 -- The laws of a device, of what it means at any moment. A cut leaves something in every sector; while the device is on,
 -- it may leave what is current; and a payload that it leaves is 60 bytes.
 pub record Laws (m : Meaning) : Type 0 where
@@ -66,12 +81,12 @@ abbrev pub TellsPower : Answer → Meaning → Type 0
 TellsPower r m' = m'.on ≡ not (returned r == 1)
 
 -- Rule 4. A read copies the current payload into the caller's bytes, which held x and then hold y, or answers 3 if it is torn.
--- Refused, it leaves these bytes. Unless it answers 1, it changes no content, current or possible.
+-- Refused, it leaves these bytes. Whatever it answers, it changes no content, current or possible.
 pub record Reads (s : ℕ) (x y : List ℕ) (r : Answer) (m m' : Meaning) : Type 0 where
   pub copied : returned r ≡ 0 → m.current s ≡ payload y
   pub unreadable : returned r ≡ 3 → (s < m.count) × (m.current s ≡ torn)
   pub left : (returned r ≢ 0) → y ≡ x
-  pub unchanged : (returned r ≢ 1) → Unchanged m m'
+  pub unchanged : Unchanged m m'
 
 -- Rule 5. A write below the count is accepted unless it answers 1. Accepted, it makes b current in s; s gains at most b and torn
 -- as possible contents; other sectors keep their current content and gain no possible one. Refused with 2, it changes nothing.
@@ -88,6 +103,7 @@ pub record Flushes (r : Answer) (m m' : Meaning) : Type 0 where
   pub settled : returned r ≡ 0 → Settled m'.current m'.possible
 
 -- Rule 7. A write that answers 1 gains at most what an accepted one may; a read or a flush that answers 1 gains nothing.
+-- (Of a read, rule 4 says more.)
 abbrev pub CutWrite : ℕ → List ℕ → Answer → Meaning → Meaning → Type 0
 CutWrite s b r m m' = returned r ≡ 1 → Gains s b m.possible m'.possible
 

@@ -1,12 +1,12 @@
 //! A write that was accepted and is not in its place yet.
-ghost use Rattle.std.specs.Prelude.{◌≡◌, MatchOption};
+ghost use Rattle.std.specs.Prelude.{◌≡◌, MatchOption, replicate};
 ghost use Rattle.device.specs.Sector.{IsPayload};
 ghost use Rattle.device.specs.Waiting.{NoneFrom, YoungestAt};
 
 use crate::PAYLOAD;
 
 /// A sector and the bytes that are to be written there. It is a plain value: whoever keeps some decides what they mean.
-#[derive(Clone, Copy, Debug, Default, PartialEq, Eq)]
+#[derive(Clone, Copy, Debug, PartialEq, Eq)]
 pub struct PendingWrite {
     pub sector: u32,
     pub bytes: [u8; PAYLOAD],
@@ -24,11 +24,20 @@ impl PendingWrite {
     }
 }
 
-/// A write of zeros to sector 0, as the default, for places where none stands yet: a constant, so that an array can be made of it.
+/// A write of zeros to sector 0, for places where none stands yet: a constant, so that an array can be made of it.
 pub const BLANK: PendingWrite = PendingWrite {
     sector: 0,
     bytes: [0; PAYLOAD],
 };
+
+// By hand, so that a clause says which value the constant has.
+impl Default for PendingWrite {
+    ghost is_default = { λ write. (write.sector ≡ 0) × (write.bytes ≡ replicate 60 0) };
+
+    fn default() -> PendingWrite {
+        BLANK
+    }
+}
 
 /// Where the youngest of these writes, oldest first, stands that is to the sector.
 pub fn youngest_to(writes: &[PendingWrite], sector: u32) -> Option<usize>

@@ -10,7 +10,7 @@ use Rattle.device.specs.Sector.{Content, torn, Image, Possible, IsPayload}
 use Rattle.device.specs.Bytes.{content, payload_content}
 use Rattle.device.specs.Rules.{Meaning, NoneAdded, Puts, Gains, WriteCall, FlushCall}
 use Rattle.device.specs.Queues.{At}
-use Rattle.device.specs.Waiting.{waiting_at, youngest, OneOf, MayLeave, shown, may, with_waiting, Absent, Holds, Keeps, Untouched}
+use Rattle.device.specs.Waiting.{waiting_at, youngest, OneOf, MayLeave, shown, may, with_waiting, Absent, IsYoungest, Keeps, Untouched}
 use Rattle.device.proofs.Calls.{accepted_below, write_gains}
 use Rattle.device.proofs.Lists.{first_here, first_there, first_past, absent_waiting, from_place, waiting_append, youngest_last, leave_last, leave_replaced, leave_first, leave_map}
 
@@ -200,13 +200,13 @@ past_dropped w ws m m' h u = record {
 }
 
 -- the youngest write to a sector is what it holds
-pub split_holds : (s : ℕ) (ws before after : List PendingWrite) (w : PendingWrite) → ws ≡ before ++ w ∷ after → w.sector ≡ s → Absent s after → IsPayload w.bytes → Holds s w.bytes ws
+pub split_holds : (s : ℕ) (ws before after : List PendingWrite) (w : PendingWrite) → ws ≡ before ++ w ∷ after → w.sector ≡ s → Absent s after → IsPayload w.bytes → IsYoungest s w.bytes ws
 split_holds s ws before after w e same last is n c h =
     let waits : waiting_at n ws s ≡ waiting_at n before s ++ w.bytes ∷ [] =
     ap (λ (z : List PendingWrite). waiting_at n z s) e ∙ waiting_append n before (w ∷ after) s
     ∙ ap (λ (z : List (List ℕ)). waiting_at n before s ++ z) (first_here n w after s same h ∙ ap (λ (z : List (List ℕ)). w.bytes ∷ z) (absent_waiting s after last n)) in
     ap (λ (z : List (List ℕ)). youngest z c) waits ∙ youngest_last (waiting_at n before s) w.bytes c ∙ payload_content w.bytes is
 
-pub place_holds : (s : ℕ) (ws : List PendingWrite) (j k : ℕ) (w : PendingWrite) → k ≡ j + 1 → At ws j w → w.sector ≡ s → Absent s (drop k ws) → IsPayload w.bytes → Holds s w.bytes ws
+pub place_holds : (s : ℕ) (ws : List PendingWrite) (j k : ℕ) (w : PendingWrite) → k ≡ j + 1 → At ws j w → w.sector ≡ s → Absent s (drop k ws) → IsPayload w.bytes → IsYoungest s w.bytes ws
 place_holds s ws j k w e h same last is = split_holds s ws (take j ws) (drop k ws) w
     (sym (take-append-drop j ws) ∙ ap (λ (z : List PendingWrite). take j ws ++ z) (from_place ws j k w e h)) same last is

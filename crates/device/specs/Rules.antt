@@ -62,7 +62,7 @@ abbrev pub Settled : Image → Possible → Type 0
 Settled f p = (s : ℕ) (c : Content) → p s c → c ≡ f s
 
 -- Rule 1. The count never changes. Read and write refuse a sector with 2 exactly if it is not below the count,
--- unless they answer 1. (`Writes` and `Flushes` say that a write below it, and any flush, is accepted unless it answers 1.)
+-- unless they answer 1. (`WriteRule` and `FlushRule` say that a write below it, and any flush, is accepted unless it answers 1.)
 abbrev pub CountStays : Meaning → Meaning → Type 0
 CountStays m m' = m'.count ≡ m.count
 
@@ -82,7 +82,7 @@ TellsPower r m' = m'.on ≡ not (returned r == 1)
 
 -- Rule 4. A read copies the current payload into the caller's bytes, which held x and then hold y, or answers 3 if it is torn.
 -- Refused, it leaves these bytes. Whatever it answers, it changes no content, current or possible.
-pub record Reads (s : ℕ) (x y : List ℕ) (r : Answer) (m m' : Meaning) : Type 0 where
+pub record ReadRule (s : ℕ) (x y : List ℕ) (r : Answer) (m m' : Meaning) : Type 0 where
   pub copied : returned r ≡ 0 → m.current s ≡ payload y
   pub unreadable : returned r ≡ 3 → (s < m.count) × (m.current s ≡ torn)
   pub left : (returned r ≢ 0) → y ≡ x
@@ -90,14 +90,14 @@ pub record Reads (s : ℕ) (x y : List ℕ) (r : Answer) (m m' : Meaning) : Type
 
 -- Rule 5. A write below the count is accepted unless it answers 1. Accepted, it makes b current in s; s gains at most b and torn
 -- as possible contents; other sectors keep their current content and gain no possible one. Refused with 2, it changes nothing.
-pub record Writes (s : ℕ) (b : List ℕ) (r : Answer) (m m' : Meaning) : Type 0 where
+pub record WriteRule (s : ℕ) (b : List ℕ) (r : Answer) (m m' : Meaning) : Type 0 where
   pub answers : s < m.count → (returned r ≡ 0) ⊎ (returned r ≡ 1)
   pub puts : returned r ≡ 0 → Puts s b m.current m'.current
   pub gains : returned r ≡ 0 → Gains s b m.possible m'.possible
   pub refused : returned r ≡ 2 → Unchanged m m'
 
 -- Rule 6. A flush is accepted unless it answers 1. Accepted, it leaves each current content, as the only possible one.
-pub record Flushes (r : Answer) (m m' : Meaning) : Type 0 where
+pub record FlushRule (r : Answer) (m m' : Meaning) : Type 0 where
   pub answers : (returned r ≡ 0) ⊎ (returned r ≡ 1)
   pub current : returned r ≡ 0 → (s : ℕ) → m'.current s ≡ m.current s
   pub settled : returned r ≡ 0 → Settled m'.current m'.possible
@@ -116,7 +116,7 @@ pub record ReadCall (s : ℕ) (x y : List ℕ) (r : Answer) (m m' : Meaning) : T
   pub numbered : Numbered s r m
   pub off : StaysOff r m m'
   pub power : TellsPower r m'
-  pub reads : Reads s x y r m m'
+  pub reads : ReadRule s x y r m m'
   pub cut : CutOther r m m'
 
 pub record WriteCall (s : ℕ) (b : List ℕ) (r : Answer) (m m' : Meaning) : Type 0 where
@@ -124,12 +124,12 @@ pub record WriteCall (s : ℕ) (b : List ℕ) (r : Answer) (m m' : Meaning) : Ty
   pub numbered : Numbered s r m
   pub off : StaysOff r m m'
   pub power : TellsPower r m'
-  pub writes : Writes s b r m m'
+  pub writes : WriteRule s b r m m'
   pub cut : CutWrite s b r m m'
 
 pub record FlushCall (r : Answer) (m m' : Meaning) : Type 0 where
   pub count : CountStays m m'
   pub off : StaysOff r m m'
   pub power : TellsPower r m'
-  pub flushes : Flushes r m m'
+  pub flushes : FlushRule r m m'
   pub cut : CutOther r m m'

@@ -52,8 +52,8 @@ abbrev pub NoneFor : ℕ → List PendingWrite → Type 0
 NoneFor s ws = (n : ℕ) → waiting_at n ws s ≡ []
 
 -- b is what sector s holds by these writes, in a device that has the sector
-abbrev pub Holds : ℕ → List ℕ → List PendingWrite → Type 0
-Holds s b ws = (n : ℕ) (c : Content) → s < n → youngest (waiting_at n ws s) c ≡ payload b
+abbrev pub IsYoungest : ℕ → List ℕ → List PendingWrite → Type 0
+IsYoungest s b ws = (n : ℕ) (c : Content) → s < n → youngest (waiting_at n ws s) c ≡ payload b
 
 -- eight wait at most: before a ninth, the oldest goes
 abbrev pub room_in : List PendingWrite → List PendingWrite

@@ -1,5 +1,6 @@
 pub mod Found
 pub mod Calls
+pub mod Calling
 pub mod Both
 pub mod Lists
 pub mod Waits

@@ -23,13 +23,16 @@ bytes_below (x ∷ xs) e (suc i) = bytes_below xs (and_parts (nat_lt x 256) (all
 
 pub below_bytes : (xs : List ℕ) → ((i : ℕ) → slice_index xs i < 256) → all_bytes xs ≡ true
 below_bytes [] h = refl
-below_bytes (x ∷ xs) h = and_from (nat_lt x 256) (all_bytes xs) (lt-ltb x 256 (h 0)) (below_bytes xs (λ i. h (suc i)))
+below_bytes (x ∷ xs) h = and_from (nat_lt x 256) (all_bytes xs) (lt-ltb x 256 (h 0))
+    (below_bytes xs (λ i. h (suc i)))
 
 pub payload_content : (b : List ℕ) → IsPayload b → content b ≡ payload b
 unfolding content
-payload_content b p = cond-true (is_payload b) (payload b) torn (and_from (length b == 60) (all_bytes b) (eq-eqb (length b) 60 p.sixty) (below_bytes b p.bytes))
+payload_content b p = cond-true (is_payload b) (payload b) torn
+    (and_from (length b == 60) (all_bytes b) (eq-eqb (length b) 60 p.sixty) (below_bytes b p.bytes))
 
-pub lawful_if : (t : Bool) (b : List ℕ) → (t ≡ true → IsPayload b) → Lawful (cond t (payload b) torn)
+pub lawful_if : (t : Bool) (b : List ℕ) → (t ≡ true → IsPayload b)
+    → Lawful (cond t (payload b) torn)
 lawful_if true b h = h refl
 lawful_if false b h = tt
 

@@ -1,10 +1,10 @@
 -- Which calls a device gets, one after another. g is what a type of device says of its devices and of its own calls: over any
 -- device these are opaque, so that a call that is told of was made. Assumes nothing.
-use Rattle.std.specs.Prelude.{◌≡◌, ◌≢◌, ℕ, ◌⊎◌, List, [], ◌∷◌, map, Err}
+use Rattle.std.specs.Prelude.{◌≡◌, ◌≢◌, ℕ, false, ◌⊎◌, List, [], ◌∷◌, Err}
 use Rattle.device.specs.declared.Device.{Ghosts}
 use Rattle.device.specs.declared.fault.Fault.TheVariants.{Off}
 use Rattle.device.specs.Faults.{Answer}
-use Rattle.device.specs.Rules.{ReadCall, WriteCall, FlushCall}
+use Rattle.device.specs.Rules.{Meaning, ReadCall, WriteCall, FlushCall, CountStays, Unchanged}
 use Rattle.device.specs.Means.{means}
 
 -- a call: of a sector, of a sector and the bytes for it, or of all that waits
@@ -15,12 +15,20 @@ pub data Call : Type 0 where
 
 -- one read of each of these sectors
 abbrev pub reads : List ℕ → List Call
-reads ss = map read ss
+reads [] = []
+reads (s ∷ ss) = read s ∷ reads ss
+
+-- what reads leave of a device, however many
+pub record OnlyReads (m m' : Meaning) : Type 0 where
+  pub count : CountStays m m'
+  pub contents : Unchanged m m'
+  pub stays_off : m.on ≡ false → m'.on ≡ false
 
 module _ {D : Type 0} (g : Ghosts D) where
   -- the call takes d to d' and answers r
   abbrev pub Called : Call → Answer → D → D → Type 0
-  Called (read s) r d d' = (x : List ℕ) × ((y : List ℕ) × ReadCall s x y r (means g d) (means g d') × g.reads d s x y r d')
+  Called (read s) r d d' = (x : List ℕ) × ((y : List ℕ)
+      × ReadCall s x y r (means g d) (means g d') × g.reads d s x y r d')
   Called (write s b) r d d' = WriteCall s b r (means g d) (means g d') × g.writes d s b r d'
   Called flush r d d' = FlushCall r (means g d) (means g d') × g.flushes d r d'
 
@@ -32,4 +40,5 @@ module _ {D : Type 0} (g : Ghosts D) where
   -- the first of these calls are made, in this order, and no other; the last one made answers 1, and none before it
   abbrev pub Stopped : List Call → D → D → Type 0
   Stopped [] d d' = ⊥
-  Stopped (c ∷ cs) d d' = Called c (Err Off) d d' ⊎ ((e : D) × ((r : Answer) × Called c r d e × (r ≢ Err Off) × Stopped cs e d'))
+  Stopped (c ∷ cs) d d' = Called c (Err Off) d d'
+      ⊎ ((e : D) × ((r : Answer) × Called c r d e × (r ≢ Err Off) × Stopped cs e d'))

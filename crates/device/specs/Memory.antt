@@ -34,7 +34,9 @@ Lacks w m s f = (row_count w m ≤ s) × (f ≡ NoSector)
 
 -- row r is put in sector s of memory m, by the answer a: it is there then, or else nothing is changed
 abbrev pub PutsRow : ℕ → List ℕ → ℕ → List ℕ → Answer → List ℕ → Type 0
-PutsRow w m s r a m' = MatchResult a (λ _. (s < row_count w m) × (m' ≡ with_row w m s r)) (λ f. Lacks w m s f × (m' ≡ m))
+PutsRow w m s r a m' = MatchResult a
+    (λ _. (s < row_count w m) × (m' ≡ with_row w m s r))
+    (λ f. Lacks w m s f × (m' ≡ m))
 
 -- a device whose only possible contents are the current ones
 abbrev pub only : Image → Possible
@@ -49,6 +51,11 @@ abbrev pub lasting : (ℕ → List ℕ → Content) → ℕ → List ℕ → Mea
 lasting h w m = meaning (row_count w m) true (held_by h w m) (only (held_by h w m))
 
 -- the laws of a device hold of any memory, if no row holds a payload that is none
-pub lasting_laws : (h : ℕ → List ℕ → Content) → ((s : ℕ) (r : List ℕ) → Lawful (h s r)) → (w : ℕ) (m : List ℕ) → Laws (lasting h w m)
+pub lasting_laws : (h : ℕ → List ℕ → Content) → ((s : ℕ) (r : List ℕ) → Lawful (h s r))
+    → (w : ℕ) (m : List ℕ) → Laws (lasting h w m)
 unfolding held_by
-lasting_laws h lawful w m = record { some = λ s. (h s (row_in w m s), refl); kept = λ _ s. refl; lawful = λ s c e. subst Lawful (sym e) (lawful s (row_in w m s)) }
+lasting_laws h lawful w m = record {
+  some = λ s. (h s (row_in w m s), refl);
+  kept = λ _ s. refl;
+  lawful = λ s c e. subst Lawful (sym e) (lawful s (row_in w m s));
+}

@@ -32,7 +32,8 @@ IsFull q = length (waiting q) ≡ places q
 
 -- q was not full, and in q' x waits behind all others, in one of the places
 abbrev pub Joins : {X : Type 0} → X → Queue X → Queue X → Type 0
-Joins x q q' = (waiting q' ≡ waiting q ++ x ∷ []) × (length (waiting q) < places q) × PutsOne x (in_places q) (in_places q')
+Joins x q q' = (waiting q' ≡ waiting q ++ x ∷ []) × (length (waiting q) < places q)
+    × PutsOne x (in_places q) (in_places q')
 
 -- before `x` come `k` others
 abbrev pub At : {X : Type 0} → List X → ℕ → X → Type 0

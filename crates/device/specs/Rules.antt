@@ -16,7 +16,8 @@ abbrev pub meaning : ℕ → Bool → Image → Possible → Meaning
 meaning n o f p = record { count = n; on = o; current = f; possible = p }
 
 -- the same of a device, by what its type says of its devices: `means` is shorter where there is a bound
-abbrev pub means_by : {D : Type 0} → (D → ℕ) → (D → Bool) → (D → Image) → (D → Possible) → D → Meaning
+abbrev pub means_by : {D : Type 0} → (D → ℕ) → (D → Bool) → (D → Image) → (D → Possible)
+    → D → Meaning
 means_by count on current possible d = meaning (count d) (on d) (current d) (possible d)
 
 -- what a type of device says of each call of its own, in its own terms: of a read by the device before, the sector, the caller's

@@ -10,7 +10,8 @@ use Rattle.device.specs.Rules.{Meaning, meaning, Laws, NoneAdded, Unchanged}
 -- the bytes that wait for sector s of a device of n sectors, oldest first
 unfoldable pub waiting_at : ℕ → List PendingWrite → ℕ → List (List ℕ)
 waiting_at n [] s = []
-waiting_at n (w ∷ ws) s = cond (w.sector == s && nat_lt s n) (w.bytes ∷ waiting_at n ws s) (waiting_at n ws s)
+waiting_at n (w ∷ ws) s = cond (w.sector == s && nat_lt s n)
+    (w.bytes ∷ waiting_at n ws s) (waiting_at n ws s)
 
 -- the youngest of these, or c where none waits
 abbrev pub youngest : List (List ℕ) → Content → Content
@@ -41,11 +42,13 @@ Absent s (w ∷ ws) = (w.sector ≢ s) × Absent s ws
 
 -- no write at place k of ws or later is to sector s
 abbrev pub NoneFrom : ℕ → List PendingWrite → ℕ → Type 0
-NoneFrom s ws k = (i : ℕ) (d : PendingWrite) → k ≤ i → i < length ws → (slice_index_or ws i d).sector ≢ s
+NoneFrom s ws k = (i : ℕ) (d : PendingWrite) → k ≤ i → i < length ws
+    → (slice_index_or ws i d).sector ≢ s
 
 -- the youngest write to sector s stands at place k
 abbrev pub YoungestAt : ℕ → List PendingWrite → ℕ → Type 0
-YoungestAt s ws k = (k < length ws) × ((d : PendingWrite) → (slice_index_or ws k d).sector ≡ s) × NoneFrom s ws (k + 1)
+YoungestAt s ws k = (k < length ws) × ((d : PendingWrite) → (slice_index_or ws k d).sector ≡ s)
+    × NoneFrom s ws (k + 1)
 
 -- nothing waits for sector s, in a device of any count
 abbrev pub NoneFor : ℕ → List PendingWrite → Type 0
@@ -83,14 +86,19 @@ pub record Cut (m m' : Meaning) : Type 0 where
   pub added : NoneAdded m.possible m'.possible
 
 -- The laws of a device hold with writes waiting if they hold without.
-youngest_left : (bs : List (List ℕ)) (p : Content → Type 0) (c : Content) → p c → MayLeave bs p (youngest bs c)
+youngest_left : (bs : List (List ℕ)) (p : Content → Type 0) (c : Content) → p c
+    → MayLeave bs p (youngest bs c)
 youngest_left [] p c h = inl h
 youngest_left (b ∷ bs) p c h = elim (youngest_left bs (λ d. d ≡ content b) (content b) refl) [
   | inl e ↦ inr (inl (inl e))
-  | inr o ↦ elim o [ inl i ↦ inr (inl (inr i)) | inr t ↦ inr (inr (let k = t.0 in omega arith, t.1)) ]
+  | inr o ↦ elim o [
+    | inl i ↦ inr (inl (inr i))
+    | inr t ↦ inr (inr (let k = t.0 in omega arith, t.1))
+  ]
 ]
 
-pub kept_waiting : (n : ℕ) (ws : List PendingWrite) (f : Image) (p : Possible) → Found p f → Found (may n ws p) (shown n ws f)
+pub kept_waiting : (n : ℕ) (ws : List PendingWrite) (f : Image) (p : Possible) → Found p f
+    → Found (may n ws p) (shown n ws f)
 kept_waiting n ws f p h s = youngest_left (waiting_at n ws s) (p s) (f s) (h s)
 
 one_lawful : (bs : List (List ℕ)) (c : Content) → OneOf bs c → Lawful c
@@ -98,7 +106,9 @@ one_lawful [] c h = elim h [ ]
 one_lawful (b ∷ bs) c (inl e) = subst Lawful (sym e) (content_lawful b)
 one_lawful (b ∷ bs) c (inr h) = one_lawful bs c h
 
-pub lawful_waiting : (n : ℕ) (ws : List PendingWrite) (p : Possible) → ((s : ℕ) (c : Content) → p s c → Lawful c) → (s : ℕ) (c : Content) → may n ws p s c → Lawful c
+pub lawful_waiting : (n : ℕ) (ws : List PendingWrite) (p : Possible)
+    → ((s : ℕ) (c : Content) → p s c → Lawful c)
+    → (s : ℕ) (c : Content) → may n ws p s c → Lawful c
 lawful_waiting n ws p h s c (inl x) = h s c x
 lawful_waiting n ws p h s c (inr (inl x)) = one_lawful (waiting_at n ws s) c x
 lawful_waiting n ws p h s c (inr (inr x)) = subst Lawful (sym x.1) tt

@@ -58,18 +58,21 @@ pub trait Device {
     /// Copies the sector's payload into the caller's bytes.
     fn read(&mut self, sector: u32, into: &mut [u8; PAYLOAD]) -> Result<(), Fault>
         ensures rules { ReadCall sector into.old into.new result
-            (means_by count on current possible self.old) (means_by count on current possible self.new) }
+            (means_by count on current possible self.old)
+            (means_by count on current possible self.new) }
         ensures made { reads self.old sector into.old into.new result self.new };
 
     /// Makes the bytes the sector's payload; a cut before the next flush may undo or tear it.
     fn write(&mut self, sector: u32, bytes: &[u8; PAYLOAD]) -> Result<(), Fault>
         ensures rules { WriteCall sector bytes.now result
-            (means_by count on current possible self.old) (means_by count on current possible self.new) }
+            (means_by count on current possible self.old)
+            (means_by count on current possible self.new) }
         ensures made { writes self.old sector bytes.now result self.new };
 
     /// Makes every accepted write last.
     fn flush(&mut self) -> Result<(), Fault>
         ensures rules { FlushCall result
-            (means_by count on current possible self.old) (means_by count on current possible self.new) }
+            (means_by count on current possible self.old)
+            (means_by count on current possible self.new) }
         ensures made { flushes self.old result self.new };
 }

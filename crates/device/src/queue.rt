@@ -54,7 +54,9 @@ impl<'a, T: Copy> Queue<'a, T> {
 
     /// The one before which `k` others came, if more than `k` wait.
     pub fn get(&self, k: usize) -> Option<T>
-        ensures { MatchOption result (length (waiting self.now) ≤ k) (λ x. At (waiting self.now) k x) }
+        ensures { MatchOption result
+            (length (waiting self.now) ≤ k)
+            (λ x. At (waiting self.now) k x) }
     {
         if k >= self.len {
             return None;
@@ -64,7 +66,9 @@ impl<'a, T: Copy> Queue<'a, T> {
 
     /// Puts one behind all others, or gives it back if every place is taken.
     pub fn push(&mut self, x: T) -> Result<(), T>
-        ensures put { MatchResult result (λ _. Joins x self.old self.new) (λ y. (y ≡ x) × IsFull self.old × (self.new ≡ self.old)) }
+        ensures put { MatchResult result
+            (λ _. Joins x self.old self.new)
+            (λ y. (y ≡ x) × IsFull self.old × (self.new ≡ self.old)) }
         ensures room { places self.new ≡ places self.old }
         ensures same { places_at self.new ≡ places_at self.old }
     {
@@ -80,7 +84,9 @@ impl<'a, T: Copy> Queue<'a, T> {
 
     /// Takes out the oldest.
     pub fn pop(&mut self) -> Option<T>
-        ensures taken { MatchOption result ((waiting self.old ≡ []) × (self.new ≡ self.old)) (λ x. waiting self.old ≡ x ∷ waiting self.new) }
+        ensures taken { MatchOption result
+            ((waiting self.old ≡ []) × (self.new ≡ self.old))
+            (λ x. waiting self.old ≡ x ∷ waiting self.new) }
         ensures untouched { in_places self.new ≡ in_places self.old }
         ensures same { places_at self.new ≡ places_at self.old }
     {
@@ -127,8 +133,12 @@ impl<'a, T: Copy> Queue<'a, T> {
     fn place(&self, after: usize) -> usize
         requires { after < places self.now }
         ensures inside { result < length self.now.slots.now }
-        ensures puts { after ≡ self.now.len → (x : T) → ring (slice_set self.now.slots.now result x) self.now.first (after + 1) ≡ waiting self.now ++ x ∷ [] }
-        ensures reads { after < self.now.len → (d : T) → slice_index_or (waiting self.now) after d ≡ slice_index_or self.now.slots.now result d }
+        ensures puts { after ≡ self.now.len → (x : T)
+            → ring (slice_set self.now.slots.now result x) self.now.first (after + 1)
+            ≡ waiting self.now ++ x ∷ [] }
+        ensures reads { after < self.now.len → (d : T)
+            → slice_index_or (waiting self.now) after d
+            ≡ slice_index_or self.now.slots.now result d }
     {
         let past = self.slots.len() - self.first;
         if after < past {
@@ -152,7 +162,9 @@ impl<'a, T: Copy> Queue<'a, T> {
     fn second(&self) -> usize
         requires { 0 < self.now.len }
         ensures inside { result ≤ places self.now - 1 }
-        ensures rest { (x : T) → waiting self.now ≡ slice_index_or (waiting self.now) 0 x ∷ ring self.now.slots.now result (self.now.len - 1) }
+        ensures rest { (x : T) → waiting self.now
+            ≡ slice_index_or (waiting self.now) 0 x
+            ∷ ring self.now.slots.now result (self.now.len - 1) }
     {
         let next = self.first + 1;
         if next < self.slots.len() { next } else { 0 }

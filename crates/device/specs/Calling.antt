@@ -1,6 +1,6 @@
 -- Which calls a device gets, one after another. g is what a type of device says of its devices and of its own calls: over any
 -- device these are opaque, so that a call that is told of was made. Assumes nothing.
-use Rattle.std.specs.Prelude.{◌≡◌, ◌≢◌, ℕ, false, ◌⊎◌, List, [], ◌∷◌, Err}
+use Rattle.std.specs.Prelude.{◌≡◌, ◌≢◌, ℕ, zero, suc, ◌+◌, false, ◌⊎◌, List, [], ◌∷◌, ◌++◌, Err}
 use Rattle.device.specs.declared.Device.{Ghosts}
 use Rattle.device.specs.declared.fault.Fault.TheVariants.{Off}
 use Rattle.device.specs.Faults.{Answer}
@@ -17,6 +17,15 @@ pub data Call : Type 0 where
 abbrev pub reads : List ℕ → List Call
 reads [] = []
 reads (s ∷ ss) = read s ∷ reads ss
+
+-- f 0, f 1 and so on, k of them
+abbrev pub each : (ℕ → ℕ) → ℕ → List ℕ
+each f zero = []
+each f (suc k) = each f k ++ f k ∷ []
+
+-- k sectors from a on, in order
+abbrev pub sectors_from : ℕ → ℕ → List ℕ
+sectors_from a k = each (λ i. a + i) k
 
 -- what reads leave of a device, however many
 pub record OnlyReads (m m' : Meaning) : Type 0 where

@@ -14,8 +14,8 @@ use Rattle.layout.specs.Homes.{home_bytes}
 use Rattle.layout.specs.Bodies.{body_bytes}
 use Rattle.layout.specs.Pages.{word_at}
 use Rattle.layout.proofs.Homes.{body-home_bytes}
-use Rattle.image.specs.declared.refusal.Refusal.{Refusal}
-use Rattle.image.specs.declared.refusal.Refusal.TheVariants.{Torn, NoHeader, LaterEpoch, Unlawful, Dangling}
+use Rattle.image.specs.declared.refusal.ImageRefusal.{ImageRefusal}
+use Rattle.image.specs.declared.refusal.ImageRefusal.TheVariants.{Torn, NoHeader, LaterEpoch, Unlawful, Dangling}
 use Rattle.image.specs.Logs.{Change, last_record}
 use Rattle.image.specs.Heaps.{Heap, free_page, page_of, HasObject, DanglesIn, Dangles, NoneDangles, FirstDangling}
 use Rattle.image.specs.Images.{Reads, HasBody, IsPageAt, Shows, Holds, FirstFault, Judged}
@@ -94,7 +94,7 @@ module _ (n : ℕ) (σ : Image) (h : Header) (ts : List (List Change)) where
       )
 
   -- the pages and the references judged
-  pages_or : Reads n σ h ts → ((H : Heap) × Holds n σ H) ⊎ ((q : Refusal) × Judged n σ q)
+  pages_or : Reads n σ h ts → ((H : Heap) × Holds n σ H) ⊎ ((q : ImageRefusal) × Judged n σ q)
   pages_or r = elim (first (λ s. HasLawful σ h ts s → ⊥) (HasLawful σ h ts) (root_of h.geometry) h.geometry.sectors
       (λ s. ⊎_swap (page_at_or s))) [
         | inl (s, l, m, none, before) ↦
@@ -110,7 +110,7 @@ module _ (n : ℕ) (σ : Image) (h : Header) (ts : List (List Change)) where
       ]
 
 -- Whatever its sectors hold, an image holds a heap or gets a refusal.
-pub always_one : (n : ℕ) (σ : Image) → ((H : Heap) × Holds n σ H) ⊎ ((r : Refusal) × Judged n σ r)
+pub always_one : (n : ℕ) (σ : Image) → ((H : Heap) × Holds n σ H) ⊎ ((r : ImageRefusal) × Judged n σ r)
 always_one n σ = elim (image_header_or n σ) [
   | inr none ↦ inr (NoHeader, none)
   | inl (h, a) ↦ elim (first_later_or σ h) [

@@ -1,28 +1,27 @@
 -- The pages as they are judged, one after another.
 -- Assumes nothing.
-use Rattle.std.proofs.Common.{◌≡◌, ℕ, ◌+◌, ◌-◌, ◌<◌, ◌≤◌, List, [], ◌∷◌, ◌++◌, length, Some, None, Option, MatchOption, Result, sym, refl, ap, ◌∙◌, subst, inl, inr, arith}
-use Rattle.std.specs.Prelude.{◌↔◌}
+use Rattle.std.proofs.Common.{◌≡◌, ℕ, ◌+◌, ◌-◌, ◌<◌, ◌≤◌, List, [], ◌∷◌, ◌++◌, length, drop, Some, None, Option, MatchOption, sym, refl, ap, ◌∙◌, subst, inl, inr, arith}
+use Rattle.std.specs.Prelude.{◌↔◌, IfSome}
 use Rattle.std.proofs.lemmas.List.{get_or_append_left, get_or_push, length_push}
 use Rattle.std.proofs.lemmas.Bool.{cases_lt}
-use Rattle.device.specs.Faults.{Answer}
-use Rattle.device.specs.Rules.{Meaning}
 use Rattle.device.specs.Sector.{Image}
+use Rattle.layout.specs.declared.geometry.Geometry.{Geometry}
 use Rattle.layout.specs.declared.header.Header.{Header}
 use Rattle.layout.specs.declared.page.Page.{Page}
 use Rattle.layout.specs.Geometries.{root_of, IsPage}
 use Rattle.layout.specs.Pages.{Shaped}
 use Rattle.layout.specs.Bodies.{body_bytes}
-use Rattle.image.specs.declared.refusal.Refusal.{Refusal}
+use Rattle.image.specs.declared.refusal.ImageRefusal.{ImageRefusal}
+use Rattle.image.specs.declared.refusal.ImageRefusal.TheVariants.{Unlawful, Dangling}
 use Rattle.image.specs.declared.log.LogRead.{LogRead}
 use Rattle.image.specs.declared.tally.Tally.{Tally}
 use Rattle.image.specs.declared.judged.PagesJudged.{PagesJudged}
 use Rattle.image.specs.Logs.{Change}
+use Rattle.image.specs.Phases.{FirstOf}
 use Rattle.image.specs.Heaps.{Heap, HasPage, page_of, free_page, DanglesIn, Dangles, NoneDangles, FirstDangling}
 use Rattle.image.specs.Images.{HasBody, IsPageAt, Shows, FirstFault, Judged}
-use Rattle.image.specs.Stages.{IsReadOf, IsFaultOf, FindsBody, FindsNoBody, FindsPage, FindsNoPage, FindsShown, FindsNoneShown, IsJudgedOf, division_of, IsJudgedPage, IsAnother}
-use Rattle.image.specs.Looking.{Finds}
+use Rattle.image.specs.Stages.{IsReadOf, IsFaultOf, IsPageFault, IsOfPages, EndsAtFault, EndsAtDangling, log_division, nth_body, page_count, IsBodyRead, IsPageRead, FindsBody, FindsNoBody, FindsPage, FindsNoPage, FindsShown, FindsNoneShown, IsJudgedOf, division_of, IsJudgedPage, IsAnother}
 use Rattle.image.specs.Tallies.{page_at, IsTallyOf, IsTallyOfHeap}
-use Rattle.image.proofs.Lookings.{finds_less}
 use Rattle.image.proofs.Single.{header_one, log_one, body_one, page_inside, inside_page}
 
 module _ (n : ℕ) (σ : Image) (x : LogRead) (r : IsReadOf n σ x) where
@@ -52,7 +51,7 @@ module _ (n : ℕ) (σ : Image) (x : LogRead) (r : IsReadOf n σ x) where
     tally = z;
   }
 
-  pub fault_judged : (s : ℕ) (t : Tally) (q : Refusal) → IsPage x.header.geometry s → PagesSoFar s t → FindsNoPage n σ x s q → Judged n σ q
+  pub fault_judged : (s : ℕ) (t : Tally) (q : ImageRefusal) → IsPage x.header.geometry s → PagesSoFar s t → FindsNoPage n σ x s q → Judged n σ q
   fault_judged s t q inside y f =
       let g = f r inside in
       let first : FirstFault σ x.header r.log s = record { page = inside; fault = g.0; before = λ u i l. earlier u i l } in
@@ -65,8 +64,8 @@ module _ (n : ℕ) (σ : Image) (x : LogRead) (r : IsReadOf n σ x) where
           (page_at y.pages k, subst (λ (v : ℕ). IsPageAt σ x.header r.log v (page_at y.pages k)) e (y.lawful k (omega (arith, y.at))))
 
       told : FirstFault σ x.header r.log s → IsFaultOf σ r.log s q → Judged n σ q
-      told a (inl (e, b)) = subst (λ (p : Refusal). Judged n σ p) (sym e) (x.header, (r.log, r.reads, a, b))
-      told a (inr (e, b)) = subst (λ (p : Refusal). Judged n σ p) (sym e) (x.header, (r.log, r.reads, a, b))
+      told a (inl (e, b)) = subst (λ (p : ImageRefusal). Judged n σ p) (sym e) (x.header, (r.log, r.reads, a, b))
+      told a (inr (e, b)) = subst (λ (p : ImageRefusal). Judged n σ p) (sym e) (x.header, (r.log, r.reads, a, b))
 
   -- all pages are lawful: this is the heap
   pub all_pages : (t : Tally) → PagesSoFar x.header.geometry.sectors t → (H : Heap) × Shows n σ H × IsTallyOfHeap H t
@@ -110,7 +109,7 @@ module _ (n : ℕ) (σ : Image) (x : LogRead) (r : IsReadOf n σ x) where
       let p = shown_body H a s inside in
       only (page_of H s) p.0 (body_one σ x.header r.log s _ _ p.1 (f r inside))
 
-  pub body_shown : (H : Heap) → Shows n σ H → (s : ℕ) (q : Refusal) → IsPage x.header.geometry s → FindsNoBody n σ x s q → ⊥
+  pub body_shown : (H : Heap) → Shows n σ H → (s : ℕ) (q : ImageRefusal) → IsPage x.header.geometry s → FindsNoBody n σ x s q → ⊥
   body_shown H a s q inside f = (f r inside).0 (body_bytes (page_of H s)) (shown_body H a s inside).1
 
   -- no data word of the pages before sector s dangles
@@ -161,9 +160,30 @@ one_option e = cc
 -- the page with the body that was found is that of the heap
 module _ (n : ℕ) (σ : Image) (x : LogRead) (s : ℕ) where
   pub shown_finds : (body : List ℕ) (o : Option Page) → FindsBody n σ x s body → ((p : Page) → Shaped p → body_bytes p ≡ body → o ≡ Some p)
-      → MatchOption o (FindsNoneShown n σ x s) (FindsShown n σ x s)
-  shown_finds body None f only = λ r i H a. no_option (shown_page n σ x r H a s i body None f only)
-  shown_finds body (Some p) f only = λ r i H a. one_option (shown_page n σ x r H a s i body (Some p) f only)
+      → IfSome o (λ p. Shaped p × (body_bytes p ≡ body))
+      → MatchOption o (IsPageFault s (Unlawful s) × FindsNoneShown n σ x s) (λ p. (body_bytes p ≡ body) × FindsShown n σ x s p)
+  shown_finds body None f only found = (inr refl, λ r i H a. no_option (shown_page n σ x r H a s i body None f only))
+  shown_finds body (Some p) f only found = (found.1, λ r i H a. one_option (shown_page n σ x r H a s i body (Some p) f only))
+
+  -- and it stands in the bytes that were read
+  pub page_read : (b body : List ℕ) (o : Option Page) → IsBodyRead σ x s b → body ≡ drop 12 b
+      → MatchOption o (IsPageFault s (Unlawful s) × FindsNoneShown n σ x s) (λ p. (body_bytes p ≡ body) × FindsShown n σ x s p)
+      → MatchOption o (IsPageFault s (Unlawful s) × FindsNoneShown n σ x s) (λ p. IsPageRead σ x s p × FindsShown n σ x s p)
+  page_read b body None r e y = y
+  page_read b body (Some p) r e y = ((b, r, y.0 ∙ e), y.1)
+
+-- which refusals pages can get, and how far they are read then
+of_pages : (g : Geometry) (s : ℕ) (q : ImageRefusal) → IsPage g s → IsPageFault s q → IsOfPages g q
+of_pages g s q i (inl e) = subst (λ (p : ImageRefusal). IsOfPages g p) (sym e) i
+of_pages g s q i (inr e) = subst (λ (p : ImageRefusal). IsOfPages g p) (sym e) i
+
+pub fault_of_pages : (x : LogRead) (ss : List ℕ) (q : ImageRefusal) → EndsAtFault x ss q
+    → FirstOf (nth_body x) (page_count x) ss × IsOfPages (log_division x) q
+fault_of_pages x ss q (s, i, f, e) = ((s + 1 - root_of x.header.geometry, omega arith, e), of_pages (log_division x) s q i f)
+
+pub dangling_of_pages : (x : LogRead) (ss : List ℕ) (s j : ℕ) → EndsAtDangling x ss (Some (s, j))
+    → FirstOf (nth_body x) (page_count x) ss × IsOfPages (log_division x) (Dangling s j)
+dangling_of_pages x ss s j (i, l, e) = ((s + 1 - root_of x.header.geometry, omega arith, e), (i, l))
 
 -- of an image whose pages were judged
 module _ (n : ℕ) (σ : Image) (y : PagesJudged) (s : ℕ) (H : Heap) (j : IsJudgedOf n σ H y) where
@@ -177,9 +197,10 @@ module _ (n : ℕ) (σ : Image) (y : PagesJudged) (s : ℕ) (H : Heap) (j : IsJu
     λ h. subst (λ (g : Header). IsPage g.geometry s) same_division (page_inside n σ H j.holds.shows s h),
   )
 
--- so the page that is read again is the heap's
-module _ {D : Type 0} (Means : D → Meaning) (ReadMade : D → ℕ → List ℕ → List ℕ → Answer → D → Type 0) (d d' : D) (y : PagesJudged) (s : ℕ) (i : IsPage (division_of y) s) where
-  pub told_again : (r : Result Page Refusal)
-      → Finds Means ReadMade d d' (FindsShown (Means d).count (Means d).current y.log s) (λ q. FindsNoneShown (Means d).count (Means d).current y.log s) r
-      → Finds Means ReadMade d d' (IsJudgedPage (Means d).count (Means d).current y s) (λ q. IsAnother (Means d).count (Means d).current y) r
-  told_again r = finds_less Means ReadMade _ _ _ _ r d d' (λ p f H j. f j.read i H j.holds.shows) (λ q f H j. f j.read i H j.holds.shows)
+-- the page that is read again is the heap's; or the image is another
+module _ (n : ℕ) (σ : Image) (y : PagesJudged) (s : ℕ) (i : IsPage (division_of y) s) where
+  pub judged_again : (p : Page) → FindsShown n σ y.log s p → IsJudgedPage n σ y s p
+  judged_again p f H j = f j.read i H j.holds.shows
+
+  pub another : FindsNoneShown n σ y.log s → IsAnother n σ y
+  another f H j = f j.read i H j.holds.shows

@@ -1,23 +1,49 @@
--- What reads leave, one after another, and what one tells.
+-- What reads tell, one after another.
 -- Assumes nothing.
-use Rattle.std.proofs.Common.{◌≡◌, ℕ, ◌<◌, ◌≤◌, ◌≢◌, true, false, ◌⊎◌, List, Some, None, Option, MatchOption, Ok, Err, Result, sym, refl, ◌∙◌, subst, inl, inr, arith}
-use Rattle.std.proofs.lemmas.Bool.{false≢true, cases_Bool, cases_eq, both_ways, cases_lt}
+use Rattle.std.proofs.Common.{◌≡◌, ℕ, zero, suc, ◌+◌, ◌-◌, ◌<◌, ◌≤◌, add-zero, append-nil, append_assoc, true, false, ◌⊎◌, List, [], ◌∷◌, ◌++◌, Some, None, Option, MatchOption, Ok, Err, Result, MatchResult, sym, refl, ◌∙◌, ap, subst, inl, inr, arith}
+use Rattle.std.proofs.lemmas.Bool.{false≢true, cases_Bool, both_ways, cases_lt}
 use Rattle.std.specs.Option.{ok_or}
 use Rattle.std.specs.Result.{IsErr, IsErrAnd}
+use Rattle.device.specs.declared.Device.{Ghosts}
 use Rattle.device.specs.declared.fault.Fault.{Fault}
 use Rattle.device.specs.declared.fault.Fault.TheVariants.{Off as FaultOff, NoSector, Torn}
 use Rattle.device.specs.Faults.{Answer, returned}
 use Rattle.device.specs.Sector.{torn, Image, IsPayload, Lawful}
-use Rattle.device.specs.Rules.{Meaning, Laws, ReadCall, NoneAdded}
-use Rattle.image.specs.Looking.{Looked, none, more, OnlyReads, Tells, Finds}
-use Rattle.image.specs.declared.refusal.Refusal.{Refusal}
-use Rattle.image.specs.declared.refusal.Refusal.TheVariants.{Off as TurnedOff}
-use Rattle.image.specs.declared.reading.Off.{Off}
+use Rattle.device.specs.Rules.{Meaning, Laws, ReadCall}
+use Rattle.device.specs.Means.{means}
+use Rattle.device.specs.Calling.{reads, each, Called, Ran, Stopped}
+use Rattle.device.specs.Calling.Call.{read}
+use Rattle.device.proofs.Calling.{read_then, cut_then, cut_before, read_all, one_each}
+use Rattle.image.specs.Looking.{Looked, LookedTillOff, Fails, Finds}
+use Rattle.image.specs.Phases.{Just}
+use Rattle.image.specs.declared.refusal.ImageRefusal.{ImageRefusal}
+use Rattle.image.specs.declared.refusal.StageError.{StageError}
+use Rattle.image.specs.declared.refusal.StageError.TheVariants.{Off as TurnedOff, NoHeap}
+
+pub both_lists : {us vs ss ts : List ℕ} → us ≡ ss → vs ≡ ts → us ++ vs ≡ ss ++ ts
+both_lists e f = cc
+
+-- a row of sectors begins with each shorter one
+row_more : (f : ℕ → ℕ) (k m : ℕ) → (us : List ℕ) × (each f (k + m) ≡ each f k ++ us)
+row_more f k zero = ([], ap (each f) (add-zero k) ∙ sym (append-nil (each f k)))
+row_more f k (suc m) =
+    let (us, e) = row_more f k m in
+    let s : k + suc m ≡ suc (k + m) = omega arith in
+    (us ++ f (k + m) ∷ [], ap (each f) s ∙ ap (λ (vs : List ℕ). vs ++ f (k + m) ∷ []) e ∙ append_assoc (each f k) us (f (k + m) ∷ []))
+
+row_of : (f : ℕ → ℕ) (k n : ℕ) → k ≤ n → (us : List ℕ) × (each f n ≡ each f k ++ us)
+row_of f k n l =
+    let (us, e) = row_more f k (n - k) in
+    let s : n ≡ k + (n - k) = omega arith in (us, ap (each f) s ∙ e)
+
+-- a call that can only be turned off is so
+pub turned_off : {A B : Type 0} (X : A → Type 0) (Y : Type 0) (r : Result A B) → Y → IsErr r → MatchResult r X (λ _. Y)
+turned_off X Y (Ok a) y h = absurd (false≢true h)
+turned_off X Y (Err o) y h = y
 
 -- one read
--- one read
 module _ (s : ℕ) (x y : List ℕ) (r : Answer) (m m' : Meaning) (call : ReadCall s x y r m m') where
-  pub was_on : m'.on ≡ true → m.on ≡ true
+  was_on : m'.on ≡ true → m.on ≡ true
   was_on h = elim (cases_Bool m.on) [ inl e ↦ e | inr e ↦ absurd (both_ways m'.on (call.off.stays e) h) ]
 
   pub read_inside : returned r ≡ 0 ⊎ returned r ≡ 3 → s < m.count
@@ -25,12 +51,6 @@ module _ (s : ℕ) (x y : List ℕ) (r : Answer) (m m' : Meaning) (call : ReadCa
     | inl l ↦ l
     | inr l ↦ let k : (returned r ≡ 2) ⊎ (returned r ≡ 1) = call.numbered.past l in omega arith
   ]
-
-  pub not_cut : m'.on ≡ true → returned r ≢ 1
-  not_cut on h = let p = call.power in let z : m'.on ≡ false = rw h at p in both_ways m'.on z on
-
-  pub none_added : NoneAdded m.possible m'.possible
-  none_added = elim (cases_eq (returned r) 1) [ inl e ↦ call.cut e | inr ne ↦ (call.reads.unchanged ne).added ]
 
   pub read_payload : Laws m → returned r ≡ 0 → m'.on ≡ true → IsPayload y
   read_payload l h on = subst Lawful (call.reads.copied h) (l.lawful s (m.current s) (l.kept (was_on on) s))
@@ -49,74 +69,123 @@ fault_tells s x y Torn m m' r = (r.power, inr (r.reads.unreadable refl).1)
 pub look_fault : (s : ℕ) (x y : List ℕ) (f : Fault) (m m' : Meaning) {g : Fault} → f ≡ g → ReadCall s x y (Err f) m m' → Faults s g m m'
 look_fault s x y f m m' e r = subst (λ (k : Fault). Faults s k m m') e (fault_tells s x y f m m' r)
 
-module _ {D : Type 0} (Means : D → Meaning) (ReadMade : D → ℕ → List ℕ → List ℕ → Answer → D → Type 0) where
-  pub looked_then : (d e f : D) → Looked Means ReadMade d e → Looked Means ReadMade e f → Looked Means ReadMade d f
-  looked_then d e _ a none = a
-  looked_then d e _ a (more e' f s x y r b c m) = more e' f s x y r (looked_then d e e' a b) c m
+module _ {D : Type 0} (g : Ghosts D) where
+  -- one read, which does not answer 1; or which does
+  pub looked_once : (d e : D) (s : ℕ) (x y : List ℕ) (r : Answer) → ReadCall s x y r (means g d) (means g e) → g.reads d s x y r e
+      → (r ≡ Err FaultOff → ⊥) → Ran g (reads (s ∷ [])) d e
+  looked_once d e s x y r c m ne = (e, (r, (x, (y, c, m)), ne, refl))
 
-  pub looked_once : (d e : D) (s : ℕ) (x y : List ℕ) (r : Answer) → ReadCall s x y r (Means d) (Means e) → ReadMade d s x y r e → Looked Means ReadMade d e
-  looked_once d e s x y r c m = more d e s x y r none c m
+  pub cut_once : (d e : D) (s : ℕ) (x y : List ℕ) (r : Answer) → ReadCall s x y r (means g d) (means g e) → g.reads d s x y r e
+      → r ≡ Err FaultOff → Stopped g (reads (s ∷ [])) d e
+  cut_once d e s x y r c m f = inl (subst (λ (a : Answer). Called g (read s) a d e) f (x, (y, c, m)))
 
-  pub only_reads : (d e : D) → Looked Means ReadMade d e → OnlyReads (Means d) (Means e)
-  only_reads d _ none = record { count = refl; unchanged = λ _. record { current = λ s. refl; added = λ s c h. h; lost = λ s c h. h }; added = λ s c h. h; stays_off = λ h. h }
-  only_reads d _ (more e f s x y r b c m) = let o = only_reads d e b in record {
-    count = c.count ∙ o.count;
-    unchanged = λ on.
-        let u = o.unchanged (was_on s x y r (Means e) (Means f) c on) in
-        let v = c.reads.unchanged (not_cut s x y r (Means e) (Means f) c on) in
-        record { current = λ t. v.current t ∙ u.current t; added = λ t k h. u.added t k (v.added t k h); lost = λ t k h. v.lost t k (u.lost t k h) };
-    added = λ t k h. o.added t k (none_added s x y r (Means e) (Means f) c t k h);
-    stays_off = λ h. c.off.stays (o.stays_off h);
-  }
+  -- reads leave the image that is shown
+  same_image : (ss : List ℕ) (d e : D) → Ran g (reads ss) d e → g.current e ≡ g.current d
+  same_image ss d e a = λ i s. (read_all g ss d e a).contents.current s i
 
-  -- a device that is on after reads shows the same image
-  pub same_image : (d e : D) → Looked Means ReadMade d e → (Means e).on ≡ true → (Means e).current ≡ (Means d).current
-  same_image d e l on = λ i s. ((only_reads d e l).unchanged on).current s i
+  -- what is so of the image behind reads is so of that before them
+  pub carried : (E : ℕ → Image → Type 0) (ss : List ℕ) (d e : D) → Ran g (reads ss) d e → E (g.count e) (g.current e) → E (g.count d) (g.current d)
+  carried E ss d e a x =
+      subst (λ (n : ℕ). E n (g.current d)) (read_all g ss d e a).count (subst (λ (σ : Image). E (g.count e) σ) (same_image ss d e a) x)
 
-  -- a call that answers what is true of the image, behind one that found the device on
-  pub carried : (E : ℕ → Image → Type 0) (d e : D) → Looked Means ReadMade d e → (Means e).on ≡ true → E (Means e).count (Means e).current → E (Means d).count (Means d).current
-  carried E d e l on x =
-      subst (λ (n : ℕ). E n (Means d).current) (only_reads d e l).count (subst (λ (σ : Image). E (Means e).count σ) (same_image d e l on) x)
+  -- and the other way round
+  pub carried_on : (E : ℕ → Image → Type 0) (ss : List ℕ) (d e : D) → Ran g (reads ss) d e → E (g.count d) (g.current d) → E (g.count e) (g.current e)
+  carried_on E ss d e a x =
+      subst (λ (n : ℕ). E n (g.current e)) (sym (read_all g ss d e a).count) (subst (λ (σ : Image). E (g.count d) σ) (sym (same_image ss d e a)) x)
 
-  pub on_before : (d e : D) → Looked Means ReadMade d e → (Means e).on ≡ true → (Means d).on ≡ true
-  on_before d e l on = elim (cases_Bool (Means d).on) [ inl x ↦ x | inr x ↦ absurd (both_ways (Means e).on ((only_reads d e l).stays_off x) on) ]
+  -- what a call tells behind reads of ss
+  pub looked_then : (ss : List ℕ) (E : List ℕ → ℕ → Image → Type 0) (F : List ℕ → Type 0) (d e f : D) → Ran g (reads ss) d e
+      → Looked g e f (λ ts. E ts (g.count e) (g.current e)) → ((ts : List ℕ) → E ts (g.count d) (g.current d) → F (ss ++ ts)) → Looked g d f F
+  looked_then ss E F d e f a (ts, b, x) h = (ss ++ ts, read_then g ss ts d e f a b, h ts (carried (E ts) ss d e a x))
 
-  -- what a second call answers is true of the first device's image
-  pub tells_then : (E : ℕ → Image → Type 0) (d e f : D) → Looked Means ReadMade d e
-      → Looked Means ReadMade e f × (((Means f).on ≡ true) × E (Means e).count (Means e).current)
-      → Looked Means ReadMade d f × (((Means f).on ≡ true) × E (Means d).count (Means d).current)
-  tells_then E d e f l m = (looked_then d e f l m.0, (m.1.0, carried E d e l (on_before e f m.0 m.1.0) m.1.1))
+  -- the device turns off in a call behind reads of ss
+  pub off_then : (ss : List ℕ) (P Q : List ℕ → Type 0) (d e f : D) → Ran g (reads ss) d e
+      → LookedTillOff g e f P → ((ts : List ℕ) → P ts → Q (ss ++ ts)) → LookedTillOff g d f Q
+  off_then ss P Q d e f a (ts, b, x) h = (ss ++ ts, cut_then g ss ts d e f a b, h ts x)
 
-  -- the device turns off in a second call
-  pub turned_off : {A : Type 0} (T : A → Type 0) (r : Result A Off) (d e f : D) → Looked Means ReadMade d e → Looked Means ReadMade e f → (Means f).on ≡ false
-      → IsErr r → Tells Means ReadMade d f T r
-  turned_off T (Ok a) d e f l m off h = absurd (false≢true h)
-  turned_off T (Err o) d e f l m off h = (looked_then d e f l m, off)
+  -- it turns off before more was to be read
+  pub off_before : (P Q : List ℕ → Type 0) (d f : D) → LookedTillOff g d f P → ((ts : List ℕ) → P ts → (us : List ℕ) × Q (ts ++ us)) → LookedTillOff g d f Q
+  off_before P Q d f (ts, b, x) h = (ts ++ (h ts x).0, cut_before g ts (h ts x).0 d f b, (h ts x).1)
 
-  -- and so the call that may be refused says
-  pub finds_off : {A : Type 0} (T : A → Type 0) (E : Refusal → Type 0) (r : Result A Refusal) (d e f : D) → Looked Means ReadMade d e → Looked Means ReadMade e f → (Means f).on ≡ false
-      → IsErrAnd r (λ q. q ≡ TurnedOff) → Finds Means ReadMade d f T E r
-  finds_off T E (Ok a) d e f l m off h = absurd h
-  finds_off T E (Err q) d e f l m off h = (looked_then d e f l m, inl (h, off))
+  pub off_less : (P Q : List ℕ → Type 0) (d f : D) → LookedTillOff g d f P → ((ts : List ℕ) → P ts → Q ts) → LookedTillOff g d f Q
+  off_less P Q d f (ts, b, x) h = (ts, b, h ts x)
+
+  -- one more of a row of sectors
+  pub ran_more : (f : ℕ → ℕ) (k j t : ℕ) (d e e' : D) (ts : List ℕ) → Ran g (reads (each f k)) d e → Ran g (reads ts) e e'
+      → ts ≡ t ∷ [] → t ≡ f k → j ≡ k + 1 → Ran g (reads (each f j)) d e'
+  ran_more f k j t d e e' ts a b x y z =
+      subst (λ (us : List ℕ). Ran g (reads us) d e')
+      (ap (λ (vs : List ℕ). each f k ++ vs) (x ∙ ap (λ (u : ℕ). u ∷ []) y) ∙ sym (one_each f k) ∙ sym (ap (each f) z))
+      (read_then g (each f k) ts d e e' a b)
+
+  -- the device turns off at the next of a row of sectors
+  pub off_in_row : (f : ℕ → ℕ) (k n t : ℕ) (d e e' : D) → Ran g (reads (each f k)) d e → LookedTillOff g e e' (Just (t ∷ []))
+      → t ≡ f k → k < n → LookedTillOff g d e' (Just (each f n))
+  off_in_row f k n t d e e' a (ts, b, x) y l =
+      let (us, z) = row_of f (k + 1) n (omega arith) in
+      let c = subst (λ (vs : List ℕ). Stopped g (reads vs) d e') (ap (λ (vs : List ℕ). each f k ++ vs) (x ∙ ap (λ (u : ℕ). u ∷ []) y) ∙ sym (one_each f k))
+      (cut_then g (each f k) ts d e e' a b) in
+      (each f n, subst (λ (vs : List ℕ). Stopped g (reads vs) d e') (sym z) (cut_before g (each f (k + 1)) us d e' c), refl)
+
+  -- the call fails as the one behind reads of ss does
+  pub fails_then : {A : Type 0} (X : A → Type 0) (ss : List ℕ) (P Q : List ℕ → Type 0) (E F : List ℕ → ℕ → Image → ImageRefusal → Type 0)
+      (r : Result A StageError) (q : StageError) (d e f : D) → Ran g (reads ss) d e → Fails g e f P E q
+      → ((ts : List ℕ) → P ts → Q (ss ++ ts)) → ((ts : List ℕ) (p : ImageRefusal) → E ts (g.count d) (g.current d) p → F (ss ++ ts) (g.count d) (g.current d) p)
+      → IsErrAnd r (λ p. p ≡ q) → MatchResult r X (Fails g d f Q F)
+  fails_then X ss P Q E F (Ok a) q d e f l x i j h = absurd h
+  fails_then X ss P Q E F (Err p) TurnedOff d e f l x i j h =
+      subst (λ (z : StageError). Fails g d f Q F z) (sym h) (off_then ss P Q d e f l x i)
+  fails_then X ss P Q E F (Err p) (NoHeap q) d e f l x i j h =
+      subst (λ (z : StageError). Fails g d f Q F z) (sym h) (x.0, looked_then ss (λ ts n σ. E ts n σ q) (λ ts. F ts (g.count d) (g.current d) q) d e f l x.1 (λ ts. j ts q))
+
+  -- the call fails as the one that reads the next of a row of sectors does
+  pub fails_in_row : {A : Type 0} (X : A → Type 0) (f : ℕ → ℕ) (k n t : ℕ) (E : ℕ → Image → ImageRefusal → Type 0)
+      (F : List ℕ → ℕ → Image → ImageRefusal → Type 0) (r : Result A StageError) (q : StageError) (d e e' : D) → Ran g (reads (each f k)) d e
+      → Fails g e e' (Just (t ∷ [])) (λ ts n σ p. Just (t ∷ []) ts × E n σ p) q → t ≡ f k → k < n
+      → ((p : ImageRefusal) → E (g.count d) (g.current d) p → F (each f (k + 1)) (g.count d) (g.current d) p)
+      → IsErrAnd r (λ p. p ≡ q) → MatchResult r X (Fails g d e' (Just (each f n)) F)
+  fails_in_row X f k n t E F (Ok a) q d e e' l x here inside j h = absurd h
+  fails_in_row X f k n t E F (Err p) TurnedOff d e e' l x here inside j h =
+      subst (λ (z : StageError). Fails g d e' (Just (each f n)) F z) (sym h) (off_in_row f k n t d e e' l x here inside)
+  fails_in_row X f k n t E F (Err p) (NoHeap q) d e e' l (on, (ts, b, (y, z))) here inside j h =
+      subst (λ (u : StageError). Fails g d e' (Just (each f n)) F u) (sym h)
+      (on, (each f (k + 1), ran_more f k (k + 1) t d e e' ts l b y here refl, j q (carried (λ n σ. E n σ q) (each f k) d e l z)))
+
+  -- the call fails as its first part does
+  pub fails_as : {A : Type 0} (X : A → Type 0) (P Q : List ℕ → Type 0) (E F : List ℕ → ℕ → Image → ImageRefusal → Type 0)
+      (r : Result A StageError) (q : StageError) (d f : D) → Fails g d f P E q
+      → (LookedTillOff g d f P → LookedTillOff g d f Q)
+      → ((ts : List ℕ) (p : ImageRefusal) → E ts (g.count d) (g.current d) p → F ts (g.count d) (g.current d) p)
+      → IsErrAnd r (λ p. p ≡ q) → MatchResult r X (Fails g d f Q F)
+  fails_as X P Q E F (Ok a) q d f x i j h = absurd h
+  fails_as X P Q E F (Err p) TurnedOff d f x i j h = subst (λ (z : StageError). Fails g d f Q F z) (sym h) (i x)
+  fails_as X P Q E F (Err p) (NoHeap q) d f x i j h =
+      subst (λ (z : StageError). Fails g d f Q F z) (sym h) (x.0, (x.1.0, x.1.1, j x.1.0 q x.1.2))
+
+  pub fails_off : {A : Type 0} (X : A → Type 0) (P : List ℕ → Type 0) (E : List ℕ → ℕ → Image → ImageRefusal → Type 0)
+      (r : Result A StageError) (d f : D) → LookedTillOff g d f P → IsErrAnd r (λ q. q ≡ TurnedOff) → MatchResult r X (Fails g d f P E)
+  fails_off X P E (Ok a) d f l h = absurd h
+  fails_off X P E (Err q) d f l h = subst (λ (p : StageError). Fails g d f P E p) (sym h) l
+
+  -- the image is refused
+  pub refuses : (P : List ℕ → Type 0) (E : List ℕ → ℕ → Image → ImageRefusal → Type 0) (e : StageError) (q : ImageRefusal) (d f : D) → e ≡ NoHeap q
+      → g.on f ≡ true → Looked g d f (λ ss. E ss (g.count d) (g.current d) q) → Fails g d f P E e
+  refuses P E e q d f z on x = subst (λ (p : StageError). Fails g d f P E p) (sym z) (on, x)
 
   -- a value, or else a refusal
-  pub finds_or : {A : Type 0} (T : A → Type 0) (E : Refusal → Type 0) (o : Option A) (q : Refusal) (r : Result A Refusal) (d e : D) → r ≡ ok_or o q
-      → Looked Means ReadMade d e → (Means e).on ≡ true → q ≢ TurnedOff → MatchOption o (E q) T → Finds Means ReadMade d e T E r
-  finds_or T E None q r d e z l on ne x = rw z (l, inr (on, x, ne))
-  finds_or T E (Some a) q r d e z l on ne x = rw z (l, (on, x))
+  pub finds_or : {A : Type 0} (P : List ℕ → Type 0) (T : ℕ → Image → A → Type 0) (E : ℕ → Image → ImageRefusal → Type 0)
+      (o : Option A) (q : ImageRefusal) (r : Result A StageError) (d f : D) → r ≡ ok_or o (NoHeap q) → g.on f ≡ true → Looked g d f P
+      → MatchOption o (E (g.count d) (g.current d) q) (T (g.count d) (g.current d)) → Finds g d f P T E r
+  finds_or P T E None q r d f z on l x = rw z (on, (l.0, l.1, (l.2, x)))
+  finds_or P T E (Some a) q r d f z on l x = rw z (on, (l.0, l.1, (l.2, x)))
 
   -- the same call says less
-  pub finds_less : {A : Type 0} (T T' : A → Type 0) (E E' : Refusal → Type 0) (r : Result A Refusal) (d e : D) → ((a : A) → T a → T' a) → ((q : Refusal) → E q → E' q)
-      → Finds Means ReadMade d e T E r → Finds Means ReadMade d e T' E' r
-  finds_less T T' E E' (Ok a) d e f g x = (x.0, (x.1.0, f a x.1.1))
-  finds_less T T' E E' (Err q) d e f g (l, inl x) = (l, inl x)
-  finds_less T T' E E' (Err q) d e f g (l, inr x) = (l, inr (x.0, g q x.1, x.2))
-
-  -- a second call is refused: the device is off, or what is so of the refusal is so of the first device's image
-  pub refused_then : {A : Type 0} (T : A → Type 0) (E : Refusal → Type 0) (F : ℕ → Image → Type 0) (r : Result A Refusal) (q : Refusal) (d e f : D) → Looked Means ReadMade d e
-      → Looked Means ReadMade e f × (((q ≡ TurnedOff) × ((Means f).on ≡ false)) ⊎ (((Means f).on ≡ true) × F (Means e).count (Means e).current × (q ≢ TurnedOff)))
-      → IsErrAnd r (λ p. p ≡ q) → (F (Means d).count (Means d).current → E q) → Finds Means ReadMade d f T E r
-  refused_then T E F (Ok a) q d e f l m z k = absurd z
-  refused_then T E F (Err p) q d e f l (m, inl (x, off)) z k = (looked_then d e f l m, inl (z ∙ x, off))
-  refused_then T E F (Err p) q d e f l (m, inr (on, x, ne)) z k =
-      (looked_then d e f l m, inr (on, subst E (sym z) (k (carried F d e l (on_before e f m on) x)), λ w. ne (sym z ∙ w)))
+  pub finds_less : {A : Type 0} (P Q : List ℕ → Type 0) (T U : ℕ → Image → A → Type 0) (E F : ℕ → Image → ImageRefusal → Type 0)
+      (r : Result A StageError) (d f : D) → Finds g d f P T E r
+      → ((ts : List ℕ) → P ts → Q ts)
+      → ((a : A) → T (g.count d) (g.current d) a → U (g.count d) (g.current d) a)
+      → ((p : ImageRefusal) → E (g.count d) (g.current d) p → F (g.count d) (g.current d) p)
+      → Finds g d f Q U F r
+  finds_less P Q T U E F (Ok a) d f (on, (ss, b, x)) i j k = (on, (ss, b, (i ss x.0, j a x.1)))
+  finds_less P Q T U E F (Err TurnedOff) d f (ss, b, x) i j k = (ss, b, i ss x)
+  finds_less P Q T U E F (Err (NoHeap q)) d f (on, (ss, b, x)) i j k = (on, (ss, b, (i ss x.0, k q x.1)))

@@ -12,8 +12,8 @@ use Rattle.layout.specs.Homes.{home_bytes}
 use Rattle.layout.proofs.Headers.{one_header}
 use Rattle.layout.proofs.Homes.{body-home_bytes}
 use Rattle.layout.proofs.OneBody.{body_same}
-use Rattle.image.specs.declared.refusal.Refusal.{Refusal}
-use Rattle.image.specs.declared.refusal.Refusal.TheVariants.{Torn, NoHeader, LaterEpoch, Unlawful, Dangling}
+use Rattle.image.specs.declared.refusal.ImageRefusal.{ImageRefusal}
+use Rattle.image.specs.declared.refusal.ImageRefusal.TheVariants.{Torn, NoHeader, LaterEpoch, Unlawful, Dangling}
 use Rattle.image.specs.Headers.{IsHeaderIn, IsHeaderOf, InLog, IsLater, NoneLater, FirstLater}
 use Rattle.image.specs.Logs.{In, Change, IsLog, last_record}
 use Rattle.image.specs.Heaps.{Heap, HasPage, page_of, free_page, Dangles, FirstDangling}
@@ -83,23 +83,22 @@ module _ (n : ℕ) (σ : Image) where
       subst (λ (j : ℕ). slice_index_or H.pages j free_page ≡ slice_index_or K.pages i free_page) k (subst (λ (j : ℕ). slice_index_or H.pages (s - H.root) free_page ≡ slice_index_or K.pages j free_page) m p)))
 
 -- the judgement, stage by stage: once the header and the log are read, and once the header is
-abbrev OfPages : ℕ → Image → Header → List (List Change) → Refusal → Type 0
+abbrev OfPages : ℕ → Image → Header → List (List Change) → ImageRefusal → Type 0
 OfPages n σ h ts r = ((s : ℕ) × FirstFault σ h ts s × ((IsTornHome σ ts s × (r ≡ Torn s)) ⊎ ((IsTornHome σ ts s → ⊥) × (r ≡ Unlawful s))))
     ⊎ ((H : Heap) × Shows n σ H × ((s : ℕ) × ((j : ℕ) × FirstDangling H s j × (r ≡ Dangling s j))))
 
-abbrev OfLog : ℕ → Image → Header → Refusal → Type 0
+abbrev OfLog : ℕ → Image → Header → ImageRefusal → Type 0
 OfLog n σ h r = ((s : ℕ) × FirstLater σ h s × (r ≡ LaterEpoch s)) ⊎ ((ts : List (List Change)) × Reads n σ h ts × OfPages n σ h ts r)
 
-abbrev Stages : ℕ → Image → Refusal → Type 0
+abbrev Stages : ℕ → Image → ImageRefusal → Type 0
 Stages n σ r = (((h : Header) → IsHeaderIn n σ h → ⊥) × (r ≡ NoHeader)) ⊎ ((h : Header) × IsHeaderOf n σ h × OfLog n σ h r)
 
-staged : (n : ℕ) (σ : Image) (r : Refusal) → Judged n σ r → Stages n σ r
+staged : (n : ℕ) (σ : Image) (r : ImageRefusal) → Judged n σ r → Stages n σ r
 staged n σ NoHeader j = inl (j, refl)
 staged n σ (LaterEpoch s) (h, a, b) = inr (h, a, inl (s, b, refl))
 staged n σ (Torn s) (h, (ts, a, b, c)) = inr (h, a.header, inr (ts, a, inl (s, b, inl (c, refl))))
 staged n σ (Unlawful s) (h, (ts, a, b, c)) = inr (h, a.header, inr (ts, a, inl (s, b, inr (c, refl))))
 staged n σ (Dangling s k) (H, a, b) = inr (a.header, a.read.header, inr (a.log, a.read, inr (H, a, (s, (k, b, refl)))))
-staged n σ r j = absurd j
 
 -- the lowest number of which something holds is one
 lowest_one : (P : ℕ → Type 0) (s t : ℕ) → P s → P t → ((u : ℕ) → u < s → P u → ⊥) → ((u : ℕ) → u < t → P u → ⊥) → s ≡ t
@@ -132,7 +131,7 @@ module _ (n : ℕ) (σ : Image) (h : Header) (ts : List (List Change)) where
       let z = subst (λ (g : Header). IsPageAt σ g a.log s (page_of H s)) (sym e) (a.pages s y) in
       x.fault (page_of H s) (subst (λ (us : List (List Change)). IsPageAt σ h us s (page_of H s)) (sym f) z)
 
-  fault_one : (q r : Refusal) (s t : ℕ) → s ≡ t
+  fault_one : (q r : ImageRefusal) (s t : ℕ) → s ≡ t
       → ((IsTornHome σ ts s × (q ≡ Torn s)) ⊎ ((IsTornHome σ ts s → ⊥) × (q ≡ Unlawful s)))
       → ((IsTornHome σ ts t × (r ≡ Torn t)) ⊎ ((IsTornHome σ ts t → ⊥) × (r ≡ Unlawful t))) → q ≡ r
   fault_one q r s t e (inl (a, f)) (inl (b, g)) = cc (e, f, g)
@@ -140,7 +139,7 @@ module _ (n : ℕ) (σ : Image) (h : Header) (ts : List (List Change)) where
   fault_one q r s t e (inr (a, f)) (inl (b, g)) = absurd (a (subst (λ (u : ℕ). IsTornHome σ ts u) (sym e) b))
   fault_one q r s t e (inr (a, f)) (inr (b, g)) = cc (e, f, g)
 
-  pages_one : (q r : Refusal) → Reads n σ h ts → OfPages n σ h ts q → OfPages n σ h ts r → q ≡ r
+  pages_one : (q r : ImageRefusal) → Reads n σ h ts → OfPages n σ h ts q → OfPages n σ h ts r → q ≡ r
   pages_one q r z (inl (s, a, x)) (inl (t, b, y)) = fault_one q r s t (first_fault σ h ts s t a b) x y
   pages_one q r z (inl (s, a, x)) (inr (H, b, y)) = absurd (no_fault H b s (header_one n σ _ _ z.header b.read.header) (log_one n σ _ _ _ _ (header_one n σ _ _ z.header b.read.header) z.log b.read.log) a)
   pages_one q r z (inr (H, a, x)) (inl (t, b, y)) = absurd (no_fault H a t (header_one n σ _ _ z.header a.read.header) (log_one n σ _ _ _ _ (header_one n σ _ _ z.header a.read.header) z.log a.read.log) b)
@@ -152,24 +151,24 @@ module _ (n : ℕ) (σ : Image) (h : Header) where
   later_or_none : (s : ℕ) → FirstLater σ h s → NoneLater σ h → ⊥
   later_or_none s a b = b s a.inside a.later
 
-  of_log_one : (q r : Refusal) → OfLog n σ h q → OfLog n σ h r → q ≡ r
+  of_log_one : (q r : ImageRefusal) → OfLog n σ h q → OfLog n σ h r → q ≡ r
   of_log_one q r (inl (s, a, e)) (inl (t, b, f)) = let d = first_later σ h s t a b in cc (d, e, f)
   of_log_one q r (inl (s, a, e)) (inr (us, b, y)) = absurd (later_or_none s a b.none_later)
   of_log_one q r (inr (ts, a, x)) (inl (t, b, f)) = absurd (later_or_none t b a.none_later)
   of_log_one q r (inr (ts, a, x)) (inr (us, b, y)) =
       pages_one n σ h ts q r a x (subst (λ (vs : List (List Change)). OfPages n σ h vs r) (one_log σ h us ts b.log a.log) y)
 
-stages_one : (n : ℕ) (σ : Image) (q r : Refusal) → Stages n σ q → Stages n σ r → q ≡ r
+stages_one : (n : ℕ) (σ : Image) (q r : ImageRefusal) → Stages n σ q → Stages n σ r → q ≡ r
 stages_one n σ q r (inl (a, e)) (inl (b, f)) = e ∙ sym f
 stages_one n σ q r (inl (a, e)) (inr (h, b, y)) = absurd (a h b.valid)
 stages_one n σ q r (inr (h, a, x)) (inl (b, f)) = absurd (b h a.valid)
 stages_one n σ q r (inr (h, a, x)) (inr (g, b, y)) = of_log_one n σ h q r x (subst (λ (k : Header). OfLog n σ k r) (header_one n σ g h b a) y)
 
-pub refusal_one : (n : ℕ) (σ : Image) (q r : Refusal) → Judged n σ q → Judged n σ r → q ≡ r
+pub refusal_one : (n : ℕ) (σ : Image) (q r : ImageRefusal) → Judged n σ q → Judged n σ r → q ≡ r
 refusal_one n σ q r a b = stages_one n σ q r (staged n σ q a) (staged n σ r b)
 
 -- an image that holds a heap gets no refusal
-not_staged : (n : ℕ) (σ : Image) (H : Heap) (r : Refusal) → Holds n σ H → Stages n σ r → ⊥
+not_staged : (n : ℕ) (σ : Image) (H : Heap) (r : ImageRefusal) → Holds n σ H → Stages n σ r → ⊥
 not_staged n σ H r a (inl (b, e)) = b a.shows.header a.shows.read.header.valid
 not_staged n σ H r a (inr (h, b, inl (s, x, e))) =
     later_or_none n σ a.shows.header s (subst (λ (g : Header). FirstLater σ g s) (header_one n σ _ _ b a.shows.read.header) x) a.shows.read.none_later
@@ -180,7 +179,7 @@ not_staged n σ H r a (inr (h, b, inr (ts, x, inr (K, c, (s, (j, d, e)))))) =
     let q = subst (λ (L : Heap). FirstDangling L s j) (shows_one n σ K H c a.shows) d in
     a.none_dangles s j q.page q.dangles
 
-pub not_both : (n : ℕ) (σ : Image) (H : Heap) (r : Refusal) → Holds n σ H → Judged n σ r → ⊥
+pub not_both : (n : ℕ) (σ : Image) (H : Heap) (r : ImageRefusal) → Holds n σ H → Judged n σ r → ⊥
 not_both n σ H r a b = not_staged n σ H r a (staged n σ r b)
 
 pub heap_held : (n : ℕ) (σ : Image) (H K : Heap) → Holds n σ H → Holds n σ K → H ≡ K

@@ -1,12 +1,15 @@
 -- The header of an image.
 -- Assumes nothing.
-use Rattle.std.specs.Prelude.{◌≡◌, ℕ, ◌+◌, ◌%◌, ◌<◌, ◌≤◌, List}
+use Rattle.std.specs.Prelude.{◌≡◌, ℕ, ◌+◌, ◌-◌, ◌%◌, ◌<◌, ◌≤◌, List}
 use Rattle.device.specs.Sector.{Content, payload, Image}
+use Rattle.device.specs.Calling.{each}
 use Rattle.layout.specs.declared.geometry.Geometry.{Geometry}
 use Rattle.layout.specs.declared.header.Header.{Header}
 use Rattle.layout.specs.Numbers.{four_at}
 use Rattle.layout.specs.RecordBytes.{HasRecordByte}
 use Rattle.layout.specs.Headers.{header_bytes, IsValidIn}
+use Rattle.image.specs.declared.refusal.ImageRefusal.{ImageRefusal}
+use Rattle.image.specs.declared.refusal.ImageRefusal.TheVariants.{LaterEpoch}
 
 -- sector s of a device with n sectors holds the header h, and it is valid there
 abbrev pub IsHeaderAt : ℕ → Image → ℕ → Header → Type 0
@@ -38,3 +41,21 @@ pub record FirstLater (σ : Image) (h : Header) (s : ℕ) : Type 0 where
   pub inside : InLog h.geometry s
   pub later : IsLater h.epoch (σ s)
   pub before : (t : ℕ) → InLog h.geometry t → t < s → ¬ IsLater h.epoch (σ t)
+
+-- position i of the log stands in this sector
+abbrev pub log_sector : ℕ → ℕ
+log_sector i = 2 + i
+
+-- The sectors ss of the log under h were read: up to s, which shows a later epoch and is the lowest that does, or all, and none does. If the
+-- card has not as many sectors as h says, only which sectors were read is told.
+abbrev pub FindsLater : Header → List ℕ → ℕ → Image → ℕ → Type 0
+FindsLater h ss n σ s = InLog h.geometry s × (ss ≡ each log_sector (s - 1))
+    × (h.geometry.sectors ≡ n → FirstLater σ h s)
+
+abbrev pub FindsNoneLater : Header → List ℕ → ℕ → Image → Type 0
+FindsNoneLater h ss n σ = (ss ≡ each log_sector h.geometry.log)
+    × (h.geometry.sectors ≡ n → NoneLater σ h)
+
+-- q tells of such a sector
+abbrev pub TellsLater : Header → List ℕ → ℕ → Image → ImageRefusal → Type 0
+TellsLater h ss n σ q = (s : ℕ) × (q ≡ LaterEpoch s) × FindsLater h ss n σ s

@@ -8,8 +8,8 @@ use Rattle.layout.specs.Geometries.{root_of, IsPage}
 use Rattle.layout.specs.Pages.{Lawful}
 use Rattle.layout.specs.Bodies.{body_bytes}
 use Rattle.layout.specs.Homes.{home_bytes}
-use Rattle.image.specs.declared.refusal.Refusal.{Refusal}
-use Rattle.image.specs.declared.refusal.Refusal.TheVariants.{Torn, NoHeader, LaterEpoch, Unlawful, Dangling}
+use Rattle.image.specs.declared.refusal.ImageRefusal.{ImageRefusal}
+use Rattle.image.specs.declared.refusal.ImageRefusal.TheVariants.{Torn, NoHeader, LaterEpoch, Unlawful, Dangling}
 use Rattle.image.specs.Headers.{IsHeaderIn, IsHeaderOf, NoneLater, FirstLater}
 use Rattle.image.specs.Logs.{In, Change, IsLog, last_record}
 use Rattle.image.specs.Heaps.{Heap, page_of, NoneDangles, FirstDangling}
@@ -22,7 +22,8 @@ pub record Reads (n : ℕ) (σ : Image) (h : Header) (ts : List (List Change)) :
 
 -- the page of sector s has this body: that of its last committed record, or else its home's
 abbrev pub HasBody : Image → List (List Change) → ℕ → List ℕ → Type 0
-HasBody σ ts s body = MatchOption (last_record s ts) (σ s ≡ payload (home_bytes s body)) (λ b. body ≡ b)
+HasBody σ ts s body =
+    MatchOption (last_record s ts) (σ s ≡ payload (home_bytes s body)) (λ b. body ≡ b)
 
 -- the page of sector s is p, and lawful
 abbrev pub IsPageAt : Image → Header → List (List Change) → ℕ → Page → Type 0
@@ -59,13 +60,14 @@ IsTornHome σ ts s = (last_record s ts ≡ None) × (σ s ≡ torn)
 --   A page is not lawful; the first is told. Either its home is torn and no committed record has the page, or else what the page's body
 --   should be is no lawful body there, or the home's bytes before it are not those of a home of this sector.
 --   A reference has no object; the first in the first page with one is told.
-abbrev pub Judged : ℕ → Image → Refusal → Type 0
+abbrev pub Judged : ℕ → Image → ImageRefusal → Type 0
 Judged n σ NoHeader = (h : Header) → ¬ IsHeaderIn n σ h
 Judged n σ (LaterEpoch s) = (h : Header) × IsHeaderOf n σ h × FirstLater σ h s
-Judged n σ (Torn s) = (h : Header) × ((ts : List (List Change)) × Reads n σ h ts × FirstFault σ h ts s × IsTornHome σ ts s)
-Judged n σ (Unlawful s) = (h : Header) × ((ts : List (List Change)) × Reads n σ h ts × FirstFault σ h ts s × ¬ IsTornHome σ ts s)
+Judged n σ (Torn s) = (h : Header) × ((ts : List (List Change))
+    × Reads n σ h ts × FirstFault σ h ts s × IsTornHome σ ts s)
+Judged n σ (Unlawful s) = (h : Header) × ((ts : List (List Change))
+    × Reads n σ h ts × FirstFault σ h ts s × ¬ IsTornHome σ ts s)
 Judged n σ (Dangling s j) = (H : Heap) × Shows n σ H × FirstDangling H s j
-Judged n σ _ = ⊥
 
 -- An image holds one heap at most.
 abbrev pub AtMostOneHeap : Type 0
@@ -73,12 +75,12 @@ AtMostOneHeap = (n : ℕ) (σ : Image) (H K : Heap) → Holds n σ H → Holds n
 
 -- No image gets two refusals.
 abbrev pub AtMostOneRefusal : Type 0
-AtMostOneRefusal = (n : ℕ) (σ : Image) (q r : Refusal) → Judged n σ q → Judged n σ r → q ≡ r
+AtMostOneRefusal = (n : ℕ) (σ : Image) (q r : ImageRefusal) → Judged n σ q → Judged n σ r → q ≡ r
 
 -- An image that holds a heap gets no refusal.
 abbrev pub NotBoth : Type 0
-NotBoth = (n : ℕ) (σ : Image) (H : Heap) (r : Refusal) → Holds n σ H → ¬ Judged n σ r
+NotBoth = (n : ℕ) (σ : Image) (H : Heap) (r : ImageRefusal) → Holds n σ H → ¬ Judged n σ r
 
 -- Every image holds a heap, or gets a refusal.
 abbrev pub AlwaysOne : Type 0
-AlwaysOne = (n : ℕ) (σ : Image) → ((H : Heap) × Holds n σ H) ⊎ ((r : Refusal) × Judged n σ r)
+AlwaysOne = (n : ℕ) (σ : Image) → ((H : Heap) × Holds n σ H) ⊎ ((r : ImageRefusal) × Judged n σ r)

@@ -1,5 +1,6 @@
 pub mod Refusals
 pub mod Looking
+pub mod Phases
 pub mod Headers
 pub mod Logs
 pub mod Reading
@@ -9,3 +10,4 @@ pub mod Entries
 pub mod Stages
 pub mod Tallies
 pub mod Examples
+pub mod Theorems

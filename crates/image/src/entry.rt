@@ -1,7 +1,9 @@
 //! What stands at a position of the log.
-ghost use Rattle.std.specs.Prelude.{◌≡◌, ◌+◌, ◌<◌};
+ghost use Rattle.std.specs.Prelude.{◌≡◌, ◌+◌, ◌<◌, [], ◌∷◌};
 ghost use Rattle.device.specs.Sector.{Image, payload};
 ghost use Rattle.image.specs.Looking.{Tells};
+ghost use Rattle.image.specs.Phases.{Just};
+ghost use Rattle.image.specs.Headers.{log_sector};
 ghost use Rattle.image.specs.Entries.{IsEntryAt};
 
 use crate::Off;
@@ -23,8 +25,8 @@ pub(crate) fn entry_at<D: Device>(
     header: Header,
     position: u16,
 ) -> Result<Entry, Off>
-    ensures { Tells D.means D.reads device.old device.new (λ e. 2 + position < (D.means device.old).count
-        → IsEntryAt (D.means device.old).current header position e) result }
+    ensures { Tells ⟦<D as Device>⟧ device.old device.new (Just (log_sector position ∷ []))
+        (λ n σ e. log_sector position < n → IsEntryAt σ header position e) result }
 {
     Ok(match look(device, LOG + u32::from(position))? {
         Some(bytes) => entry_of(&bytes, header, position),

@@ -1,20 +1,20 @@
 //! The third stage of an opening: the pages are judged.
-ghost use Rattle.std.specs.Prelude.{◌≡◌, ℕ, ◌↔◌, Err, MatchOption, count_by};
+ghost use Rattle.std.specs.Prelude.{◌≡◌, ℕ, ◌<◌, ◌↔◌, [], ◌∷◌, MatchOption, count_by};
 ghost use Rattle.std.specs.List.{sum_by};
 ghost use Rattle.device.specs.Sector.{Image};
+ghost use Rattle.layout.specs.declared.page.Page.{Page as APage};
 ghost use Rattle.layout.specs.Geometries.{IsPage};
 ghost use Rattle.image.specs.Heaps.{Heap, HasPage, is_free, objects_of, NoneDangles, FirstDangling};
-ghost use Rattle.image.specs.Examples.{WorkedExamples};
-ghost use Rattle.image.specs.Looking.{Finds};
-ghost use Rattle.image.specs.Images.{Judged, Shows, AtMostOneHeap, AtMostOneRefusal, NotBoth, AlwaysOne};
-ghost use Rattle.image.specs.Reading.{ReadsAsMeant};
-ghost use Rattle.image.specs.Stages.{IsReadOf};
+ghost use Rattle.image.specs.Looking.{Finds, FindsBy};
+ghost use Rattle.image.specs.Phases.{Just, OnceOrAgain, twice};
+ghost use Rattle.image.specs.Images.{Judged, Shows};
+ghost use Rattle.image.specs.Stages.{IsReadOf, page_count, nth_body, all_bodies, log_division, EndsAtFault, EndsAtDangling, IsOfPages};
 ghost use Rattle.image.specs.Tallies.{IsTallyOfHeap};
 
-use crate::Refusal;
 use crate::log::LogRead;
 use crate::pages::{page_of, shown_page};
 use crate::tally::Tally;
+use crate::{ImageRefusal, StageError};
 use device::Device;
 use layout::Page;
 
@@ -27,36 +27,21 @@ pub struct PagesJudged {
 }
 
 impl PagesJudged {
-    ghost use Rattle.image.specs.Stages.{IsJudgedOf, judged_log, division_of, IsJudgedPage, IsAnother};
+    ghost use Rattle.image.specs.Stages.{IsJudgedOf, judged_log, division_of, body_sector, IsPageRead, IsPageFault, IsJudgedPage, IsAnother};
 
     /// Judges the pages by the log that was read.
-    pub fn judge<D: Device>(device: &mut D, log: LogRead) -> Result<PagesJudged, Refusal>
-        ensures judged { Finds D.means D.reads device.old device.new
-            (λ x. (judged_log x ≡ log) × (IsReadOf (D.means device.old).count (D.means device.old).current log
-            → (H : Heap) × IsJudgedOf (D.means device.old).count (D.means device.old).current H x))
-            (λ q. IsReadOf (D.means device.old).count (D.means device.old).current log
-            → Judged (D.means device.old).count (D.means device.old).current q) result }
-        ensures one_heap { AtMostOneHeap }
-        ensures one_refusal { AtMostOneRefusal }
-        ensures not_both { NotBoth }
-        ensures always_one { AlwaysOne }
-        ensures as_meant { ReadsAsMeant }
-        ensures examples { WorkedExamples }
-    {
-        PagesJudged::by_log(device, log)
-    }
-
-    // Judges them: first each page, then each reference. The theorems about all images stand with the call that other crates make.
-    fn by_log<D: Device>(device: &mut D, log: LogRead) -> Result<PagesJudged, Refusal>
-        ensures { Finds D.means D.reads device.old device.new
-            (λ x. (judged_log x ≡ log) × (IsReadOf (D.means device.old).count (D.means device.old).current log
-            → (H : Heap) × IsJudgedOf (D.means device.old).count (D.means device.old).current H x))
-            (λ q. IsReadOf (D.means device.old).count (D.means device.old).current log
-            → Judged (D.means device.old).count (D.means device.old).current q) result }
+    // Each page by itself first, and then each reference: that wants to know all objects.
+    pub fn judge<D: Device>(device: &mut D, log: LogRead) -> Result<PagesJudged, StageError>
+        ensures { FindsBy ⟦<D as Device>⟧ device.old device.new
+            (Just (twice (nth_body log) (page_count log)))
+            (λ ss n σ x. (ss ≡ twice (nth_body log) (page_count log)) × (judged_log x ≡ log)
+            × (IsReadOf n σ log → (H : Heap) × IsJudgedOf n σ H x))
+            (λ ss n σ q. OnceOrAgain (nth_body log) (page_count log) ss
+            × IsOfPages (log_division log) q × (IsReadOf n σ log → Judged n σ q)) result }
     {
         let tally = tally_pages(device, &log)?;
         if let Some((sector, word)) = first_dangling(device, &log, &tally)? {
-            return Err(Refusal::Dangling { sector, word });
+            return Err(ImageRefusal::Dangling { sector, word }.into());
         }
         Ok(PagesJudged {
             log,
@@ -93,30 +78,32 @@ impl PagesJudged {
         self.log.header().geometry.root()
     }
 
-    /// Reads the page of a sector again. A sector that is no page's is out of range, and then nothing is read.
-    pub fn page<D: Device>(&self, device: &mut D, sector: u32) -> Result<Page, Refusal>
+    /// Reads the page of a sector again. A sector that is no page's has none, and then nothing is read.
+    pub fn page<D: Device>(&self, device: &mut D, sector: u32) -> Result<Option<Page>, StageError>
         ensures outside { ¬ IsPage (division_of self.now) sector
-            → (result ≡ Err Refusal.OutOfRange) × (device.new ≡ device.old) }
-        ensures inside { IsPage (division_of self.now) sector → Finds D.means D.reads device.old device.new
-            (IsJudgedPage (D.means device.old).count (D.means device.old).current self.now sector)
-            (λ q. IsAnother (D.means device.old).count (D.means device.old).current self.now) result }
+            → (result ≡ Ok None) × (device.new ≡ device.old) }
+        ensures inside { IsPage (division_of self.now) sector
+            → Finds ⟦<D as Device>⟧ device.old device.new
+            (Just (body_sector (judged_log self.now) sector ∷ []))
+            (λ n σ o. (p : APage) × (o ≡ Some p) × IsPageRead σ (judged_log self.now) sector p
+            × IsJudgedPage n σ self.now sector p)
+            (λ n σ q. IsPageFault sector q × IsAnother n σ self.now) result }
         ensures pages { (n : ℕ) (σ : Image) (H : Heap) → IsJudgedOf n σ H self.now
             → IsPage (division_of self.now) sector ↔ HasPage H sector }
     {
         if !self.log.header().geometry.has_page(sector) {
-            return Err(Refusal::OutOfRange);
+            return Ok(None);
         }
-        shown_page(device, &self.log, sector)
+        Ok(Some(shown_page(device, &self.log, sector)?))
     }
 }
 
 // What the pages hold, if each is lawful.
-fn tally_pages<D: Device>(device: &mut D, log: &LogRead) -> Result<Tally, Refusal>
-    ensures { Finds D.means D.reads device.old device.new
-        (λ t. IsReadOf (D.means device.old).count (D.means device.old).current log.now
-        → (H : Heap) × Shows (D.means device.old).count (D.means device.old).current H × IsTallyOfHeap H t)
-        (λ q. IsReadOf (D.means device.old).count (D.means device.old).current log.now
-        → Judged (D.means device.old).count (D.means device.old).current q) result }
+fn tally_pages<D: Device>(device: &mut D, log: &LogRead) -> Result<Tally, StageError>
+    ensures { FindsBy ⟦<D as Device>⟧ device.old device.new (Just (all_bodies log.now))
+        (λ ss n σ t. (ss ≡ all_bodies log.now)
+        × (IsReadOf n σ log.now → (H : Heap) × Shows n σ H × IsTallyOfHeap H t))
+        (λ ss n σ q. EndsAtFault log.now ss q × (IsReadOf n σ log.now → Judged n σ q)) result }
 {
     let geometry = log.header().geometry;
     let mut tally = Tally::new();
@@ -132,13 +119,13 @@ fn first_dangling<D: Device>(
     device: &mut D,
     log: &LogRead,
     tally: &Tally,
-) -> Result<Option<(u32, usize)>, Refusal>
-    ensures { Finds D.means D.reads device.old device.new
-        (λ o. IsReadOf (D.means device.old).count (D.means device.old).current log.now
-        → (H : Heap) → Shows (D.means device.old).count (D.means device.old).current H → IsTallyOfHeap H tally.now
-        → MatchOption o (NoneDangles H) (λ p. FirstDangling H p.0 p.1))
-        (λ q. IsReadOf (D.means device.old).count (D.means device.old).current log.now
-        → (H : Heap) → ¬ Shows (D.means device.old).count (D.means device.old).current H) result }
+) -> Result<Option<(u32, usize)>, StageError>
+    ensures { FindsBy ⟦<D as Device>⟧ device.old device.new (Just (all_bodies log.now))
+        (λ ss n σ o. EndsAtDangling log.now ss o
+        × (IsReadOf n σ log.now → (H : Heap) → Shows n σ H → IsTallyOfHeap H tally.now
+        → MatchOption o (NoneDangles H) (λ p. FirstDangling H p.0 p.1)))
+        (λ ss n σ q. EndsAtFault log.now ss q
+        × (IsReadOf n σ log.now → (H : Heap) → ¬ Shows n σ H)) result }
 {
     let geometry = log.header().geometry;
     for sector in geometry.root()..geometry.sectors {

@@ -10,10 +10,12 @@ mod pages;
 mod reading;
 mod refusal;
 mod tally;
+mod theorems;
 
 pub use counts::Counts;
 pub use headers::HeadersRead;
 pub use judged::PagesJudged;
 pub use log::LogRead;
 use reading::Off;
-pub use refusal::Refusal;
+pub use refusal::{ImageRefusal, StageError};
+pub use theorems::of_all_images;

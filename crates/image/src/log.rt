@@ -1,17 +1,19 @@
 //! The second stage of an opening: the log is read.
-ghost use Rattle.std.specs.Prelude.{◌≡◌, ◌≢◌, ℕ, ◌+◌, ◌<◌, ◌≤◌, length, IsTrue, ◌↔◌, MatchOption, slice_index_or, true, Some, None};
+ghost use Rattle.std.specs.Prelude.{◌≡◌, ℕ, ◌+◌, ◌<◌, ◌≤◌, [], ◌∷◌, IsTrue, ◌↔◌, MatchOption, slice_index_or, true, Some, None};
 ghost use Rattle.std.specs.Bool.{MatchBool};
 ghost use Rattle.device.specs.Sector.{Image};
 ghost use Rattle.layout.specs.declared.header.Header.{Header as AHeader};
 ghost use Rattle.image.specs.declared.entry.Entry.TheVariants.{Commit};
-ghost use Rattle.image.specs.Headers.{IsHeaderOf, IsLater, FirstLater, NoneLater};
-ghost use Rattle.image.specs.Looking.{Tells, Finds, Looked};
+ghost use Rattle.image.specs.Headers.{IsHeaderOf, IsLater, log_sector, FindsNoneLater, FindsLater, TellsLater};
+ghost use Rattle.device.specs.Calling.{each};
+ghost use Rattle.image.specs.Looking.{Tells, TellsBy, FindsBy};
+ghost use Rattle.image.specs.Phases.{Just, FirstOf, AllThenFirstOf, twice};
 ghost use Rattle.image.specs.Entries.{IsEntryAt};
 
 use crate::entry::{Entry, entry_at};
 use crate::headers::HeadersRead;
 use crate::reading::look;
-use crate::{Off, Refusal};
+use crate::{ImageRefusal, Off, StageError};
 use device::Device;
 use layout::{Header, LOG, MOST_LOG, MOST_SECTORS, shown_epoch};
 
@@ -30,24 +32,25 @@ pub struct LogRead {
     committed: u16,
     transactions: u32,
     ghost few: { committed ≤ 64 },
-    ghost names: { (i s : ℕ) → slice_index_or homes i None ≡ Some s → IsTrue (slice_index_or named s true) },
+    ghost names: { (i s : ℕ) → slice_index_or homes i None ≡ Some s
+        → IsTrue (slice_index_or named s true) },
 }
 
 impl LogRead {
-    ghost use Rattle.image.specs.Stages.{header_of, log_header, log_transactions, committed_homes, home_at, IsReadOf, HasRead, HasReadAll, TellsLater};
+    ghost use Rattle.image.specs.Stages.{header_of, log_header, log_transactions, IsRecordFor, IsReadOf, HasRead, HasReadAll};
 
     /// Reads the log under the header that was read.
-    pub fn read<D: Device>(device: &mut D, headers: HeadersRead) -> Result<LogRead, Refusal>
-        ensures { Finds D.means D.reads device.old device.new
-            (λ x. (log_header x ≡ header_of headers)
-            × (IsHeaderOf (D.means device.old).count (D.means device.old).current (header_of headers)
-            → IsReadOf (D.means device.old).count (D.means device.old).current x))
-            (λ q. IsHeaderOf (D.means device.old).count (D.means device.old).current (header_of headers)
-            → TellsLater (D.means device.old).current (header_of headers) q) result }
+    pub fn read<D: Device>(device: &mut D, headers: HeadersRead) -> Result<LogRead, StageError>
+        ensures { FindsBy ⟦<D as Device>⟧ device.old device.new
+            (Just (twice log_sector (header_of headers).geometry.log))
+            (λ ss n σ x. AllThenFirstOf log_sector (header_of headers).geometry.log ss
+            × (log_header x ≡ header_of headers)
+            × (IsHeaderOf n σ (header_of headers) → IsReadOf n σ x))
+            (TellsLater (header_of headers)) result }
     {
         let header = headers.into_header();
         if let Some(sector) = first_later(device, header)? {
-            return Err(Refusal::LaterEpoch { sector });
+            return Err(ImageRefusal::LaterEpoch { sector }.into());
         }
         Ok(LogRead::scan(device, header)?)
     }
@@ -68,10 +71,7 @@ impl LogRead {
 
     /// The position of the last committed record for the page of a sector, if there is one.
     pub fn record_of(&self, sector: u32) -> Option<usize>
-        ensures { MatchOption result
-            ((i : ℕ) → i < length (committed_homes self.now) → home_at self.now i ≢ Some sector)
-            (λ i. (i < length (committed_homes self.now)) × (home_at self.now i ≡ Some sector)
-            × ((k : ℕ) → i < k → k < length (committed_homes self.now) → home_at self.now k ≢ Some sector)) }
+        ensures { IsRecordFor self.now sector result }
     {
         if self.named.get(sector as usize) == Some(&false) {
             return None;
@@ -82,9 +82,10 @@ impl LogRead {
 
     // Reads the log position by position, up to its end.
     fn scan<D: Device>(device: &mut D, header: Header) -> Result<LogRead, Off>
-        ensures { Tells D.means D.reads device.old device.new (λ x. (log_header x ≡ header)
-            × (header.geometry.sectors ≡ (D.means device.old).count
-            → HasReadAll (D.means device.old).current header x)) result }
+        ensures { TellsBy ⟦<D as Device>⟧ device.old device.new
+            (Just (each log_sector header.geometry.log))
+            (λ ss n σ x. FirstOf log_sector header.geometry.log ss × (log_header x ≡ header)
+            × (header.geometry.sectors ≡ n → HasReadAll σ header x)) result }
     {
         let mut log = LogRead::new(header);
         for position in 0..header.geometry.log {
@@ -113,7 +114,8 @@ impl LogRead {
     // Takes up what stands at the next position; false if the log ends before it.
     fn take_up(&mut self, position: u16, entry: Entry) -> bool
         requires { position < 64 }
-        ensures taken { (σ : Image) (h : AHeader) → position < h.geometry.log → HasRead σ h position self.old → IsEntryAt σ h position entry
+        ensures taken { (σ : Image) (h : AHeader) → position < h.geometry.log
+            → HasRead σ h position self.old → IsEntryAt σ h position entry
             → MatchBool result (HasRead σ h (position + 1) self.new) (HasReadAll σ h self.new) }
         ensures kept { log_header self.new ≡ log_header self.old }
     {
@@ -131,7 +133,8 @@ impl LogRead {
     // Takes up a commit record, if it is the one that may stand there; false if the log ends before it.
     fn take_commit(&mut self, position: u16, pages: u32, number: u32) -> bool
         requires { position < 64 }
-        ensures taken { (σ : Image) (h : AHeader) → position < h.geometry.log → HasRead σ h position self.old → IsEntryAt σ h position (Commit pages number)
+        ensures taken { (σ : Image) (h : AHeader) → position < h.geometry.log
+            → HasRead σ h position self.old → IsEntryAt σ h position (Commit pages number)
             → MatchBool result (HasRead σ h (position + 1) self.new) (HasReadAll σ h self.new) }
         ensures kept { log_header self.new ≡ log_header self.old }
     {
@@ -154,7 +157,8 @@ impl LogRead {
 // Notes that a position has the home in a sector.
 fn note_home(named: &mut [bool; MOST_SECTORS], sector: u32)
     ensures noted { IsTrue (slice_index_or named.new sector true) }
-    ensures kept { (s : ℕ) → IsTrue (slice_index_or named.old s true) → IsTrue (slice_index_or named.new s true) }
+    ensures kept { (s : ℕ) → IsTrue (slice_index_or named.old s true)
+        → IsTrue (slice_index_or named.new s true) }
 {
     let at = sector as usize;
     if at < MOST_SECTORS {
@@ -164,9 +168,9 @@ fn note_home(named: &mut [bool; MOST_SECTORS], sector: u32)
 
 // The lowest sector of the log that shows an epoch above the header's, if there is one.
 fn first_later<D: Device>(device: &mut D, header: Header) -> Result<Option<u32>, Off>
-    ensures { Tells D.means D.reads device.old device.new (λ o. header.geometry.sectors ≡ (D.means device.old).count → MatchOption o
-        (NoneLater (D.means device.old).current header)
-        (FirstLater (D.means device.old).current header)) result }
+    ensures { TellsBy ⟦<D as Device>⟧ device.old device.new
+        (Just (each log_sector header.geometry.log))
+        (λ ss n σ o. MatchOption o (FindsNoneLater header ss n σ) (FindsLater header ss n σ)) result }
 {
     for sector in LOG..header.geometry.root() {
         if is_later_at(device, header.epoch, sector)? {
@@ -178,7 +182,8 @@ fn first_later<D: Device>(device: &mut D, header: Header) -> Result<Option<u32>,
 
 // Whether a sector shows an epoch above this one.
 fn is_later_at<D: Device>(device: &mut D, epoch: u32, sector: u32) -> Result<bool, Off>
-    ensures { Tells D.means D.reads device.old device.new (λ b. sector < (D.means device.old).count → IsTrue b ↔ IsLater epoch ((D.means device.old).current sector)) result }
+    ensures { Tells ⟦<D as Device>⟧ device.old device.new (Just (sector ∷ []))
+        (λ n σ b. sector < n → IsTrue b ↔ IsLater epoch (σ sector)) result }
 {
     let Some(bytes) = look(device, sector)? else {
         return Ok(false);

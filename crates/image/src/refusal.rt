@@ -1,50 +1,26 @@
-//! Why a call on a heap is turned away.
+//! Why an image is no heap's, and why a stage of an opening fails.
 ghost use Rattle.std.specs.Prelude.{◌≡◌};
+ghost use Rattle.image.specs.declared.refusal.StageError.TheVariants.{Off as TurnedOff, NoHeap as HoldsNone};
 
+use crate::Off;
 use thiserror::Error;
 
-/// A call that is turned away answers one of these. `specs/Refusals.antt` has the number of each and its values.
+/// What is wrong with an image that holds no heap. `specs/Refusals.antt` has the number of each and its values.
 #[derive(Clone, Copy, Debug, PartialEq, Eq, Error)]
-pub enum Refusal {
-    #[error("the device is off")]
-    Off,
-    #[error("the device has no such sector")]
-    NoSector,
-    #[error("the home in sector {sector} cannot be read, and no committed record has its page")]
-    Torn { sector: u32 },
-    #[error("the heap is shut")]
-    Shut,
-    #[error("a transaction is open")]
-    TransactionOpen,
-    #[error("the ticket is not that of the open transaction")]
-    WrongTicket,
-    #[error("a size, an index, a root or a page's sector is out of range")]
-    OutOfRange,
-    #[error("the handle has no object")]
-    NoObject,
-    #[error("a root or another object refers to the object")]
-    Referred,
-    #[error("no page can serve")]
-    NoRoom,
-    #[error("a ninth page would change")]
-    NinthPage,
-    #[error("the last number is used up")]
-    LastNumber,
-    #[error("a log length or a count of sectors is outside its limits")]
-    BadGeometry,
+pub enum ImageRefusal {
     #[error("there is no valid header")]
     NoHeader,
     #[error("the log has a record of a later epoch in sector {sector}")]
     LaterEpoch { sector: u32 },
+    #[error("the home in sector {sector} cannot be read, and no committed record has its page")]
+    Torn { sector: u32 },
     #[error("the page of sector {sector} is unlawful")]
     Unlawful { sector: u32 },
     #[error("data word {word} of the page of sector {sector} refers to no object")]
     Dangling { sector: u32, word: usize },
-    #[error("the memory is too short")]
-    ShortMemory,
 }
 
-impl Refusal {
+impl ImageRefusal {
     ghost use Rattle.image.specs.Refusals.{told, sector_told, word_told};
 
     /// The number that the refusal goes by in documents and in programs' output.
@@ -53,24 +29,11 @@ impl Refusal {
         ensures { result ≡ (told self).number }
     {
         match self {
-            Refusal::Off => 1,
-            Refusal::NoSector => 2,
-            Refusal::Torn { .. } => 3,
-            Refusal::Shut => 4,
-            Refusal::TransactionOpen => 5,
-            Refusal::WrongTicket => 6,
-            Refusal::OutOfRange => 7,
-            Refusal::NoObject => 8,
-            Refusal::Referred => 9,
-            Refusal::NoRoom => 10,
-            Refusal::NinthPage => 11,
-            Refusal::LastNumber => 12,
-            Refusal::BadGeometry => 13,
-            Refusal::NoHeader => 14,
-            Refusal::LaterEpoch { .. } => 15,
-            Refusal::Unlawful { .. } => 16,
-            Refusal::Dangling { .. } => 17,
-            Refusal::ShortMemory => 18,
+            ImageRefusal::Torn { .. } => 3,
+            ImageRefusal::NoHeader => 14,
+            ImageRefusal::LaterEpoch { .. } => 15,
+            ImageRefusal::Unlawful { .. } => 16,
+            ImageRefusal::Dangling { .. } => 17,
         }
     }
 
@@ -79,11 +42,11 @@ impl Refusal {
         ensures { result ≡ sector_told (told self).values }
     {
         match self {
-            Refusal::Torn { sector }
-            | Refusal::LaterEpoch { sector }
-            | Refusal::Unlawful { sector }
-            | Refusal::Dangling { sector, .. } => Some(sector),
-            _ => None,
+            ImageRefusal::NoHeader => None,
+            ImageRefusal::LaterEpoch { sector }
+            | ImageRefusal::Torn { sector }
+            | ImageRefusal::Unlawful { sector }
+            | ImageRefusal::Dangling { sector, .. } => Some(sector),
         }
     }
 
@@ -92,8 +55,33 @@ impl Refusal {
         ensures { result ≡ word_told (told self).values }
     {
         match self {
-            Refusal::Dangling { word, .. } => Some(word),
+            ImageRefusal::Dangling { word, .. } => Some(word),
             _ => None,
         }
+    }
+}
+
+/// Why a stage of an opening fails.
+#[derive(Clone, Copy, Debug, PartialEq, Eq, Error)]
+pub enum StageError {
+    #[error("the device is off")]
+    Off,
+    #[error("{0}")]
+    NoHeap(ImageRefusal),
+}
+
+impl From<Off> for StageError {
+    ghost from_gives = { λ _ error. error ≡ TurnedOff };
+
+    fn from(_: Off) -> StageError {
+        StageError::Off
+    }
+}
+
+impl From<ImageRefusal> for StageError {
+    ghost from_gives = { λ refusal error. error ≡ HoldsNone refusal };
+
+    fn from(refusal: ImageRefusal) -> StageError {
+        StageError::NoHeap(refusal)
     }
 }

@@ -1,5 +1,5 @@
 //! What the pages of a card hold: which slots, how many objects, and how many pages are free.
-ghost use Rattle.std.specs.Prelude.{◌≡◌, ℕ, ◌+◌, ◌<◌, ◌≤◌, List, [], ◌∷◌, ◌++◌, length, IsTrue, ◌↔◌, MatchOption};
+ghost use Rattle.std.specs.Prelude.{◌≡◌, ℕ, ◌+◌, ◌<◌, ◌≤◌, List, [], ◌∷◌, ◌++◌, length, IsTrue, ◌↔◌, MatchOption, IfSome};
 ghost use Rattle.layout.specs.declared.page.Page.{Page as APage};
 ghost use Rattle.layout.specs.declared.handle.Handle.{Handle as AHandle};
 ghost use Rattle.layout.specs.declared.word.Word.TheVariants.{Reference};
@@ -33,8 +33,8 @@ impl Tally {
     // Takes up the page of the next sector.
     pub(crate) fn add(&mut self, sector: u32, page: &Page)
         requires { sector < MOST_SECTORS }
-        ensures { (root : ℕ) (ps : List APage) → sector ≡ root + length ps → IsTallyOf root ps self.old
-            → IsTallyOf root (ps ++ page.now ∷ []) self.new }
+        ensures { (root : ℕ) (ps : List APage) → sector ≡ root + length ps
+            → IsTallyOf root ps self.old → IsTallyOf root (ps ++ page.now ∷ []) self.new }
     {
         self.marks[sector as usize] = page.marks();
         self.free_pages = self.free_pages.saturating_add(u32::from(is_free(page)));
@@ -53,7 +53,8 @@ impl Tally {
 
     // Whether the word refers to no object.
     fn dangles(&self, word: Word) -> bool
-        ensures { (H : Heap) → IsTallyOfHeap H self.now → IsTrue result ↔ ((h : AHandle) × (word ≡ Reference h) × ¬ HasObject H h) }
+        ensures { (H : Heap) → IsTallyOfHeap H self.now
+            → IsTrue result ↔ ((h : AHandle) × (word ≡ Reference h) × ¬ HasObject H h) }
     {
         match word {
             Word::Number(_) => false,
@@ -63,7 +64,8 @@ impl Tally {
 
     // The first data word of a page that refers to no object.
     pub(crate) fn dangling_word(&self, page: &Page) -> Option<usize>
-        ensures { (H : Heap) → IsTallyOfHeap H self.now → MatchOption result
+        ensures inside { IfSome result (λ j. j < 10) }
+        ensures first { (H : Heap) → IsTallyOfHeap H self.now → MatchOption result
             ((j : ℕ) → ¬ DanglesIn H page.now j)
             (λ j. DanglesIn H page.now j × ((k : ℕ) → k < j → ¬ DanglesIn H page.now k)) }
     {

@@ -1,45 +1,61 @@
 -- The log is read where no sector of it shows a later epoch.
 -- Assumes nothing.
-use Rattle.std.proofs.Common.{◌≡◌, refl, inr, ap, ◌∙◌, subst}
+use Rattle.std.proofs.Common.{◌≡◌, refl, ap, ◌∙◌, subst}
+use Rattle.device.specs.Calling.{each}
 use Rattle.layout.specs.declared.header.Header.{Header}
-use Rattle.image.specs.Headers.{FirstLater}
-use Rattle.image.specs.Stages.{log_header, HasReadAll}
-use Rattle.image.proofs.Lookings.{tells_then, finds_off}
+use Rattle.image.specs.declared.refusal.ImageRefusal.TheVariants.{LaterEpoch}
+use Rattle.image.specs.Headers.{log_sector, FindsLater, TellsLater}
+use Rattle.image.specs.Phases.{Just, FirstOf, twice}
+use Rattle.image.specs.Stages.{header_of, log_header, HasReadAll}
+use Rattle.image.proofs.Lookings.{looked_then, off_then, off_before, fails_off, refuses, both_lists}
 use Rattle.image.proofs.Taking.{is_read}
 use Rattle.image.proofs.log.LogRead.read.Goals as goal
 
+pub returns-in_err-sector : goal.returns-in_err-sector
+returns-in_err-sector g c =
+    let h = header_of c.args.headers in
+    let k = c.into_header-header.result in
+    let row : each log_sector k.geometry.log ≡ each log_sector h.geometry.log = ap (λ (j : Header). each log_sector j.geometry.log) c.into_header-header.ensures in
+    fails_off g.D.Device _ (Just (twice log_sector h.geometry.log)) (TellsLater h) _ _ _
+    (off_before g.D.Device (Just (each log_sector k.geometry.log)) (Just (twice log_sector h.geometry.log)) _ _ c.in_err-sector.ensures
+    (λ ts e. (each log_sector h.geometry.log, both_lists (e ∙ row) refl))) c.from_residual.ensures.1
+
 pub returns-in-Some : goal.returns-in-Some
 returns-in-Some g c =
-    let t = c.in_ok-sector.ensures in (
-      t.0,
-      inr (
-        t.1.0,
-        λ h. let z = rw c.in-Some.is at t.1.1 in
-            let e = c.into_header-header.ensures in
-            let m = g.D.Device.means c.args.device.now in
-            (c.in-Some.sector, refl, subst (λ (k : Header). FirstLater m.current k c.in-Some.sector) e (z (ap (λ (k : Header). k.geometry.sectors) e ∙ h.valid.0.0))),
-        λ e. cc,
-      ),
-    )
+    let h = header_of c.args.headers in
+    let e = c.into_header-header.ensures in
+    let (on, (ss, ran, x)) = c.in_ok-sector.ensures in
+    let s = c.in-Some.sector in
+    refuses g.D.Device (Just (twice log_sector h.geometry.log)) (TellsLater h) _ (LaterEpoch s) _ _ c.into.ensures on
+    (ss, ran, (s, refl, subst (λ (j : Header). FindsLater j ss (g.D.Device.count c.args.device.now) (g.D.Device.current c.args.device.now) s) e (rw c.in-Some.is at x)))
 
 pub returns-in_err-scan : goal.returns-in_err-scan
-returns-in_err-scan g c = finds_off _ _ _ _ _ _ _ _ c.in_ok-sector.ensures.0 c.in_err-scan.ensures.0 c.in_err-scan.ensures.1 c.from_residual-in_err-scan.ensures.1
+returns-in_err-scan g c =
+    let h = header_of c.args.headers in
+    let k = c.into_header-header.result in
+    let row : each log_sector k.geometry.log ≡ each log_sector h.geometry.log = ap (λ (j : Header). each log_sector j.geometry.log) c.into_header-header.ensures in
+    let (on, (ss, ran, x)) = c.in_ok-sector.ensures in
+    let none = rw c.in_default.is at x in
+    fails_off g.D.Device _ (Just (twice log_sector h.geometry.log)) (TellsLater h) _ _ _
+    (off_then g.D.Device ss (Just (each log_sector k.geometry.log)) (Just (twice log_sector h.geometry.log)) _ _ _ ran c.in_err-scan.ensures
+    (λ ts e. both_lists (none.0 ∙ row) (e ∙ row))) c.from_residual-in_err-scan.ensures.1
 
 pub returns : goal.returns
 returns g c =
-    let t = c.in_ok-sector.ensures in
+    let m = c.args.device.now in
+    let h = header_of c.args.headers in
     let k = c.into_header-header.result in
     let e = c.into_header-header.ensures in
-    let m = g.D.Device.means c.args.device.now in
-    let none = rw c.in_default.is at t.1.1 in
+    let row : each log_sector k.geometry.log ≡ each log_sector h.geometry.log = ap (λ (j : Header). each log_sector j.geometry.log) e in
+    let (on, (ss, ran, y)) = c.in_ok-sector.ensures in
+    let none = rw c.in_default.is at y in
     let x = c.in_ok-scan.field-0 in
-    let u = tells_then _ _ (λ n σ. (log_header x ≡ k) × (k.geometry.sectors ≡ n → HasReadAll σ k x)) _ _ _ t.0 c.in_ok-scan.ensures in (
-      u.0,
-      (
-        u.1.0,
-        (
-          u.1.1.0 ∙ e,
-          λ h. let f = ap (λ (j : Header). j.geometry.sectors) e ∙ h.valid.0.0 in is_read m.count m.current k _ _ e h (none f) (u.1.1.1 f),
-        ),
-      ),
+    let b = c.in_ok-scan.ensures in (
+      b.0,
+      looked_then g.D.Device ss (λ ts n σ. FirstOf log_sector k.geometry.log ts × (log_header x ≡ k) × (k.geometry.sectors ≡ n → HasReadAll σ k x)) _ _ _ _ ran b.1
+          (λ ts z. (
+            (ts, subst (λ (j : Header). FirstOf log_sector j.geometry.log ts) e z.0, both_lists (none.0 ∙ row) refl),
+            z.1 ∙ e,
+            λ a. let f = ap (λ (j : Header). j.geometry.sectors) e ∙ a.valid.0.0 in is_read (g.D.Device.count m) (g.D.Device.current m) k _ _ e a (none.1 f) (z.2 f),
+          )),
     )

@@ -1,2 +1,4 @@
+pub mod Errors
+pub mod Order
 pub mod Checks
 pub mod Visits

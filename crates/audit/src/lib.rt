@@ -1,18 +1,23 @@
 //! The check of a card: what its image holds is judged and counted, and nothing is written.
 #![tactic(auto)]
 
-ghost use Rattle.std.specs.Prelude.{◌≡◌, ◌≤◌, length, replicate, Err};
+ghost use Rattle.std.specs.Prelude.{◌≡◌, ◌≤◌, length, replicate};
+ghost use Rattle.device.specs.Means.{means};
+ghost use Rattle.device.specs.Calling.{OnlyReads};
 ghost use Rattle.audit.specs.Checks.{wanted, Checks};
+ghost use Rattle.audit.specs.Order.{ChecksBy, CheckReads, CountReads, JudgeReads, JudgedWhole};
 ghost use Rattle.image.specs.Heaps.{Heap, Counted};
 ghost use Rattle.image.specs.Images.{Holds, Judged};
-ghost use Rattle.image.specs.Looking.{Looked, OnlyReads, Finds};
+ghost use Rattle.image.specs.Looking.{FindsBy};
 ghost use Rattle.image.specs.Stages.{IsJudgedOf};
 
+mod error;
 mod walk;
 mod zeroed;
 
 use device::Device;
-use image::{Counts, HeadersRead, LogRead, PagesJudged, Refusal};
+pub use error::CheckError;
+use image::{Counts, HeadersRead, LogRead, PagesJudged, StageError};
 use layout::HANDLES;
 use walk::count_reachable;
 use zeroed::Zeroed;
@@ -23,18 +28,17 @@ pub fn check<D: Device>(
     device: &mut D,
     marks: &mut [u8],
     numbers: &mut [u16],
-) -> Result<Counts, Refusal>
-    ensures looked { Looked D.means D.reads device.old device.new }
-    ensures stays { OnlyReads (D.means device.old) (D.means device.new) }
-    ensures checked { Checks (D.means device.old) (D.means device.new)
+) -> Result<Counts, CheckError>
+    ensures calls { ChecksBy ⟦<D as Device>⟧ device.old device.new result }
+    ensures stays { OnlyReads (means ⟦<D as Device>⟧ device.old) (means ⟦<D as Device>⟧ device.new) }
+    ensures checked { Checks (means ⟦<D as Device>⟧ device.old) (means ⟦<D as Device>⟧ device.new)
         marks.old marks.new numbers.old numbers.new result }
-    ensures short { result ≡ Err Refusal.ShortMemory → device.new ≡ device.old }
 {
     let wanted = HANDLES as usize * device.count() as usize;
     if marks.len() < wanted || numbers.len() < wanted {
-        return Err(Refusal::ShortMemory);
+        return Err(CheckError::ShortMemory);
     }
-    count_with(device, &mut marks[..wanted], &mut numbers[..wanted])
+    Ok(count_with(device, &mut marks[..wanted], &mut numbers[..wanted])?)
 }
 
 // Judges and counts with just as much memory as that wants, which is zero afterwards.
@@ -42,14 +46,15 @@ fn count_with<D: Device>(
     device: &mut D,
     marks: &mut [u8],
     numbers: &mut [u16],
-) -> Result<Counts, Refusal>
-    requires marks { length marks.old ≡ wanted (D.means device.old).count }
-    requires numbers { length numbers.old ≡ wanted (D.means device.old).count }
-    ensures marks { marks.new ≡ replicate (wanted (D.means device.old).count) 0 }
-    ensures numbers { numbers.new ≡ replicate (wanted (D.means device.old).count) 0 }
-    ensures found { Finds D.means D.reads device.old device.new
-        (λ c. (H : Heap) × Holds (D.means device.old).count (D.means device.old).current H × Counted H c)
-        (Judged (D.means device.old).count (D.means device.old).current) result }
+) -> Result<Counts, StageError>
+    requires marks { length marks.old ≡ wanted (D.count device.old) }
+    requires numbers { length numbers.old ≡ wanted (D.count device.old) }
+    ensures marks { marks.new ≡ replicate (wanted (D.count device.old)) 0 }
+    ensures numbers { numbers.new ≡ replicate (wanted (D.count device.old)) 0 }
+    ensures found { FindsBy ⟦<D as Device>⟧ device.old device.new
+        (CheckReads (D.count device.old) (D.current device.old))
+        (λ ss n σ c. CountReads n σ c ss × ((H : Heap) × Holds n σ H × Counted H c))
+        (λ ss n σ q. JudgeReads n σ ss × Judged n σ q) result }
 {
     let marks = Zeroed(marks);
     let numbers = Zeroed(numbers);
@@ -62,12 +67,13 @@ fn count<D: Device>(
     device: &mut D,
     marks: &mut [u8],
     numbers: &mut [u16],
-) -> Result<Counts, Refusal>
-    requires clear { marks.old ≡ replicate (wanted (D.means device.old).count) 0 }
+) -> Result<Counts, StageError>
+    requires clear { marks.old ≡ replicate (wanted (D.count device.old)) 0 }
     requires room { length marks.old ≤ length numbers.old }
-    ensures { Finds D.means D.reads device.old device.new
-        (λ c. (H : Heap) × Holds (D.means device.old).count (D.means device.old).current H × Counted H c)
-        (Judged (D.means device.old).count (D.means device.old).current) result }
+    ensures { FindsBy ⟦<D as Device>⟧ device.old device.new
+        (CheckReads (D.count device.old) (D.current device.old))
+        (λ ss n σ c. CountReads n σ c ss × ((H : Heap) × Holds n σ H × Counted H c))
+        (λ ss n σ q. JudgeReads n σ ss × Judged n σ q) result }
 {
     let judged = judge(device)?;
     let reachable = count_reachable(device, &judged, marks, numbers)?;
@@ -80,10 +86,11 @@ fn count<D: Device>(
 }
 
 // Judges the image that the device shows.
-fn judge<D: Device>(device: &mut D) -> Result<PagesJudged, Refusal>
-    ensures { Finds D.means D.reads device.old device.new
-        (λ x. (H : Heap) × IsJudgedOf (D.means device.old).count (D.means device.old).current H x)
-        (Judged (D.means device.old).count (D.means device.old).current) result }
+fn judge<D: Device>(device: &mut D) -> Result<PagesJudged, StageError>
+    ensures { FindsBy ⟦<D as Device>⟧ device.old device.new
+        (JudgeReads (D.count device.old) (D.current device.old))
+        (λ ss n σ x. JudgedWhole n σ x ss × ((H : Heap) × IsJudgedOf n σ H x))
+        (λ ss n σ q. JudgeReads n σ ss × Judged n σ q) result }
 {
     let headers = HeadersRead::read(device)?;
     let log = LogRead::read(device, headers)?;

@@ -1,15 +1,17 @@
 //! The walk over all objects that can be reached.
-ghost use Rattle.std.specs.Prelude.{◌≡◌, ℕ, ◌*◌, ◌^◌, ◌<◌, ◌≤◌, length, take, drop, replicate};
+ghost use Rattle.std.specs.Prelude.{◌≡◌, ℕ, ◌+◌, ◌*◌, ◌^◌, ◌<◌, ◌≤◌, length, take, drop, replicate};
+ghost use Rattle.std.specs.List.{All};
 ghost use Rattle.device.specs.Queues.{waiting, places};
 ghost use Rattle.layout.specs.declared.word.Word.TheVariants.{Reference};
 ghost use Rattle.layout.specs.Classes.{size_of, slots_of};
 ghost use Rattle.image.specs.Heaps.{Heap, CountsReached};
-ghost use Rattle.image.specs.Looking.{Finds};
-ghost use Rattle.image.specs.Stages.{IsJudgedOf};
+ghost use Rattle.image.specs.Looking.{FindsBy};
+ghost use Rattle.image.specs.Stages.{IsJudgedOf, judged_log};
+ghost use Rattle.audit.specs.Order.{IsBody};
 ghost use Rattle.audit.specs.Visits.{handle, HasRoom, Refer, Visits};
 
 use device::{Device, Queue};
-use image::{PagesJudged, Refusal};
+use image::{PagesJudged, StageError};
 use layout::{Handle, Page, Word};
 
 // Counts the objects that can be reached. Each is marked when it is queued, so that it is queued once, and there is room for all.
@@ -18,21 +20,23 @@ pub(crate) fn count_reachable<D: Device>(
     judged: &PagesJudged,
     marks: &mut [u8],
     numbers: &mut [u16],
-) -> Result<u32, Refusal>
-    requires judged { (H : Heap) × IsJudgedOf (D.means device.old).count (D.means device.old).current H judged.now }
-    requires clear { marks.old ≡ replicate (16 * (D.means device.old).count) 0 }
+) -> Result<u32, StageError>
+    requires judged { (H : Heap) × IsJudgedOf (D.count device.old) (D.current device.old) H judged.now }
+    requires clear { marks.old ≡ replicate (16 * D.count device.old) 0 }
     requires room { length marks.old ≤ length numbers.old }
-    ensures { Finds D.means D.reads device.old device.new
-        (λ n. (H : Heap) → IsJudgedOf (D.means device.old).count (D.means device.old).current H judged.now → CountsReached H n)
-        (λ q. ⊥) result }
+    ensures { FindsBy ⟦<D as Device>⟧ device.old device.new (All (IsBody (judged_log judged.now)))
+        (λ ws n σ k. All (IsBody (judged_log judged.now)) ws × (length ws ≡ k + 1)
+        × ((H : Heap) → IsJudgedOf n σ H judged.now → CountsReached H k))
+        (λ ws n σ q. ⊥) result }
 {
-    let root = judged.page(device, judged.root())?;
+    // the root page and the page of an object are pages
+    let root = judged.page(device, judged.root())?.unwrap();
     let mut queue = Queue::new(numbers);
     visit_all(marks, &mut queue, &root.words);
     let mut count = 0;
     while let Some(number) = queue.pop() {
         let handle = Handle(u32::from(number));
-        let page = judged.page(device, handle.sector())?;
+        let page = judged.page(device, handle.sector())?.unwrap();
         visit_all(marks, &mut queue, words_of(&page, handle.slot()));
         count += 1;
     }

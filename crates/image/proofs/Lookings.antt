@@ -14,7 +14,7 @@ use Rattle.device.specs.Means.{means}
 use Rattle.device.specs.Calling.{reads, each, Called, Ran, Stopped}
 use Rattle.device.specs.Calling.Call.{read}
 use Rattle.device.proofs.Calling.{read_then, cut_then, cut_before, read_all, one_each}
-use Rattle.image.specs.Looking.{Looked, LookedTillOff, Fails, Finds}
+use Rattle.image.specs.Looking.{Looked, LookedTillOff, Fails, FindsBy, Finds}
 use Rattle.image.specs.Phases.{Just}
 use Rattle.image.specs.declared.refusal.ImageRefusal.{ImageRefusal}
 use Rattle.image.specs.declared.refusal.StageError.{StageError}
@@ -126,6 +126,19 @@ module _ {D : Type 0} (g : Ghosts D) where
       let c = subst (λ (vs : List ℕ). Stopped g (reads vs) d e') (ap (λ (vs : List ℕ). each f k ++ vs) (x ∙ ap (λ (u : ℕ). u ∷ []) y) ∙ sym (one_each f k))
       (cut_then g (each f k) ts d e e' a b) in
       (each f n, subst (λ (vs : List ℕ). Stopped g (reads vs) d e') (sym z) (cut_before g (each f (k + 1)) us d e' c), refl)
+
+  -- what a call finds behind reads of ss
+  pub finds_then : {A : Type 0} (ss : List ℕ) (P Q : List ℕ → Type 0) (T U : List ℕ → ℕ → Image → A → Type 0) (E F : List ℕ → ℕ → Image → ImageRefusal → Type 0)
+      (r : Result A StageError) (d e f : D) → Ran g (reads ss) d e → FindsBy g e f P T E r
+      → ((ts : List ℕ) → P ts → Q (ss ++ ts))
+      → ((ts : List ℕ) (a : A) → T ts (g.count d) (g.current d) a → U (ss ++ ts) (g.count d) (g.current d) a)
+      → ((ts : List ℕ) (p : ImageRefusal) → E ts (g.count d) (g.current d) p → F (ss ++ ts) (g.count d) (g.current d) p)
+      → FindsBy g d f Q U F r
+  finds_then ss P Q T U E F (Ok a) d e f l (on, x) i j k =
+      (on, looked_then ss (λ ts n σ. T ts n σ a) (λ ts. U ts (g.count d) (g.current d) a) d e f l x (λ ts. j ts a))
+  finds_then ss P Q T U E F (Err TurnedOff) d e f l x i j k = off_then ss P Q d e f l x i
+  finds_then ss P Q T U E F (Err (NoHeap q)) d e f l (on, x) i j k =
+      (on, looked_then ss (λ ts n σ. E ts n σ q) (λ ts. F ts (g.count d) (g.current d) q) d e f l x (λ ts. k ts q))
 
   -- the call fails as the one behind reads of ss does
   pub fails_then : {A : Type 0} (X : A → Type 0) (ss : List ℕ) (P Q : List ℕ → Type 0) (E F : List ℕ → ℕ → Image → ImageRefusal → Type 0)

@@ -9,7 +9,6 @@ pub mod Records
 pub mod Bodied
 pub mod Tallying
 pub mod Judging
-pub mod Exemplary
 pub mod Decide
 pub mod DecideHeaders
 pub mod DecideReadings

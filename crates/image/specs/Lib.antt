@@ -9,5 +9,4 @@ pub mod Images
 pub mod Entries
 pub mod Stages
 pub mod Tallies
-pub mod Examples
 pub mod Theorems

@@ -35,9 +35,3 @@ slots_of Root = 0
 -- slot i takes data word j: it takes so many as it has words, from i times its size on
 abbrev pub Takes : Class → ℕ → ℕ → Type 0
 Takes c i j = (i < slots_of c) × (i * size_of c ≤ j) × (j < i * size_of c + size_of c)
-
--- c has slots, and of the classes that do, with room for w words, none has smaller ones
-pub record Smallest (w : ℕ) (c : Class) : Type 0 where
-  pub some : 0 < slots_of c
-  pub holds : w ≤ size_of c
-  pub least : (d : Class) → 0 < slots_of d → w ≤ size_of d → size_of c ≤ size_of d

@@ -6,7 +6,8 @@ use Rattle.layout.specs.Numbers.{two, four, zeros}
 use Rattle.layout.specs.Kinds.{header_kind, edition}
 
 unfoldable pub header_bytes : Header → List ℕ
-header_bytes h = header_kind ∷ edition ∷ [] ++ two h.geometry.log ++ four h.epoch ++ four h.geometry.sectors ++ four h.transactions ++ zeros 44
+header_bytes h = header_kind ∷ edition ∷ [] ++ two h.geometry.log ++ four h.epoch
+    ++ four h.geometry.sectors ++ four h.transactions ++ zeros 44
 
 -- valid in sector s of a device with n sectors
 abbrev pub IsValidIn : ℕ → ℕ → Header → Type 0

@@ -14,7 +14,8 @@ page_record_bytes e p s body = page_record_kind ∷ 0 ∷ [] ++ two p ++ four e 
 
 -- a commit record of epoch e at position p: it ends a transaction of n page records, which is number k
 unfoldable pub commit_record_bytes : ℕ → ℕ → ℕ → ℕ → List ℕ
-commit_record_bytes e p n k = commit_record_kind ∷ 0 ∷ [] ++ two p ++ four e ++ four n ++ four k ++ zeros 44
+commit_record_bytes e p n k = commit_record_kind ∷ 0 ∷ [] ++ two p ++ four e ++ four n ++ four k
+    ++ zeros 44
 
 -- a transaction has eight page records at most
 abbrev pub most_records : ℕ
@@ -27,6 +28,8 @@ pub record IsNoRecord (g : Geometry) (b : List ℕ) : Type 0 where
 
 -- what a log sector with the bytes b is read as: the body of a page record is bytes 12 to 59 of the sector
 abbrev pub ReadsAs : Geometry → List ℕ → Record → Type 0
-ReadsAs g b (Page r) = IsPage g r.home × (page_record_bytes r.epoch r.position r.home r.body.now ≡ b) × (r.body.now ≡ drop 12 b)
-ReadsAs g b (Commit r) = (r.pages ≤ most_records) × (commit_record_bytes r.epoch r.position r.pages r.number ≡ b)
+ReadsAs g b (Page r) = IsPage g r.home
+    × (page_record_bytes r.epoch r.position r.home r.body.now ≡ b) × (r.body.now ≡ drop 12 b)
+ReadsAs g b (Commit r) = (r.pages ≤ most_records)
+    × (commit_record_bytes r.epoch r.position r.pages r.number ≡ b)
 ReadsAs g b Neither = IsNoRecord g b

@@ -83,7 +83,8 @@ pub(crate) fn kinds_of(words: &[Word; DATA_WORDS]) -> u32
 
 // The word of a kind and a value, where every kind but 1 is taken for a number's.
 fn word_of(kind: u32, value: u32) -> Word
-    ensures { result ≡ (if kind == 1 then Word.Reference (record { 0 = value }) else Word.Number value) }
+    ensures { result
+        ≡ (if kind == 1 then Word.Reference (record { 0 = value }) else Word.Number value) }
 {
     match kind {
         1 => Word::Reference(Handle(value)),

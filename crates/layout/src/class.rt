@@ -1,6 +1,6 @@
 //! The class of a page: how many slots it has, and of how many words.
-ghost use Rattle.std.specs.Prelude.{◌≡◌, ◌<◌, ◌≤◌, IsSome, IfSome, ◌↔◌};
-ghost use Rattle.layout.specs.Classes.{code_of, size_of, slots_of, Smallest};
+ghost use Rattle.std.specs.Prelude.{◌≡◌, IfSome};
+ghost use Rattle.layout.specs.Classes.{code_of, size_of, slots_of};
 
 /// What the slots of a page are.
 #[derive(Clone, Copy, Debug, PartialEq, Eq)]
@@ -79,21 +79,6 @@ impl Class {
             Class::Three => 3,
             Class::Five => 2,
             Class::Ten => 1,
-        }
-    }
-
-    /// The class whose slots have the smallest size of at least so many words.
-    pub fn for_words(words: usize) -> Option<Class>
-        ensures some { IsSome result ↔ ((0 < words) × (words ≤ 10)) }
-        ensures smallest { IfSome result (Smallest words) }
-    {
-        match words {
-            1 => Some(Class::One),
-            2 => Some(Class::Two),
-            3 => Some(Class::Three),
-            4..=5 => Some(Class::Five),
-            6..=10 => Some(Class::Ten),
-            _ => None,
         }
     }
 }

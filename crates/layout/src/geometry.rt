@@ -2,9 +2,9 @@
 ghost use Rattle.std.specs.Prelude.{◌≡◌, ◌+◌, ◌<◌, ◌≤◌, IsTrue, ◌↔◌, IfSome, IsSome};
 
 /// The least and the most sectors of a log.
-pub const LEAST_LOG: u16 = 9;
+pub const LEAST_LOG: u32 = 9;
 
-pub const MOST_LOG: u16 = 64;
+pub const MOST_LOG: u32 = 64;
 
 /// The most sectors of a card.
 pub const MOST_SECTORS: usize = 1024;
@@ -31,14 +31,17 @@ impl Geometry {
     ghost use Rattle.layout.specs.Geometries.{Within, root_of, IsPage};
 
     /// The division of a card of so many sectors with a log of this length, if they are within the limits.
-    pub fn new(sectors: u32, log: u16) -> Option<Geometry>
+    // The length comes as a caller has it, in 32 bits: cut to 16 before it is looked at, 65,545 would pass for 9.
+    pub fn new(sectors: u32, log: u32) -> Option<Geometry>
         ensures within { IsSome result ↔ Within sectors log }
         ensures value { IfSome result (λ g. (g.sectors ≡ sectors) × (g.log ≡ log)) }
     {
         let log_fits = (LEAST_LOG..=MOST_LOG).contains(&log);
-        let rest_fits = u32::from(log) + LEAST_REST <= sectors;
-        if log_fits && rest_fits && sectors as usize <= MOST_SECTORS {
-            Some(Geometry { sectors, log })
+        if log_fits && log + LEAST_REST <= sectors && sectors as usize <= MOST_SECTORS {
+            Some(Geometry {
+                sectors,
+                log: log as u16,
+            })
         } else {
             None
         }

@@ -36,7 +36,7 @@ impl Header {
     fn read(bytes: &[u8; PAYLOAD]) -> Option<Header>
         ensures { (h : Header) → header_bytes h ≡ bytes.now → result ≡ Some h }
     {
-        let geometry = Geometry::new(four_at(bytes, 8), two_at(bytes, 2))?;
+        let geometry = Geometry::new(four_at(bytes, 8), u32::from(two_at(bytes, 2)))?;
         let epoch = four_at(bytes, 4);
         let transactions = four_at(bytes, 12);
         if epoch == 0 {

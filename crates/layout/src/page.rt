@@ -76,8 +76,8 @@ impl Page {
     // Whether in each data word outside objects stands what may stand there.
     fn has_lawful_words(&self) -> bool
         requires { (i : ℕ) → IsUsed self.now i → i < slots_of self.now.class }
-        ensures outside { IsTrue result
-            ↔ ((j : ℕ) → j < 10 → InObject self.now j ⊎ Outside self.now.class (word_at self.now j)) }
+        ensures outside { IsTrue result ↔ ((j : ℕ) → j < 10
+            → InObject self.now j ⊎ Outside self.now.class (word_at self.now j)) }
         ensures fit { IsTrue result → (j : ℕ) → value_of (word_at self.now j) < 2 ^ 32 }
     {
         // the slot that the word is in, if it is in one, and the word where it ends

@@ -81,7 +81,8 @@ impl<'a> PageRecord<'a> {
             ≡ page_record_bytes self.now.epoch self.now.position self.now.home self.now.body.now }
         ensures only { (e p s : ℕ) (body : List ℕ) → e < 2 ^ 32 → p < 2 ^ 16 → s < 2 ^ 32
             → page_record_bytes e p s body ≡ result
-            → (e ≡ self.now.epoch) × (p ≡ self.now.position) × (s ≡ self.now.home) × (body ≡ self.now.body.now) }
+            → (e ≡ self.now.epoch) × (p ≡ self.now.position)
+            × (s ≡ self.now.home) × (body ≡ self.now.body.now) }
         ensures no_commit { (e p n k : ℕ) → commit_record_bytes e p n k ≢ result }
     {
         let PageRecord {
@@ -125,7 +126,8 @@ impl CommitRecord {
             ≡ commit_record_bytes self.now.epoch self.now.position self.now.pages self.now.number }
         ensures only { (e p n k : ℕ) → e < 2 ^ 32 → p < 2 ^ 16 → n < 2 ^ 32 → k < 2 ^ 32
             → commit_record_bytes e p n k ≡ result
-            → (e ≡ self.now.epoch) × (p ≡ self.now.position) × (n ≡ self.now.pages) × (k ≡ self.now.number) }
+            → (e ≡ self.now.epoch) × (p ≡ self.now.position)
+            × (n ≡ self.now.pages) × (k ≡ self.now.number) }
         ensures no_page { (e p s : ℕ) (body : List ℕ) → page_record_bytes e p s body ≢ result }
     {
         let CommitRecord {

@@ -5,4 +5,5 @@ use Rattle.layout.proofs.header.Header.read.Goals as goal
 pub returns : goal.returns
 returns c = λ h e.
     let g = c.in_ok-geometry.ensures.value in
-    ap Some (same_as_read h _ _ e (g.0 ∙ c.four_at.ensures) (g.1 ∙ c.two_at.ensures) c.four_at-epoch.ensures c.four_at-transactions.ensures)
+    let log = g.1 ∙ c.from.ensures ∙ c.two_at.ensures in
+    ap Some (same_as_read h _ _ e (g.0 ∙ c.four_at.ensures) log c.four_at-epoch.ensures c.four_at-transactions.ensures)

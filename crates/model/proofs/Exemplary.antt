@@ -6,17 +6,18 @@ use Rattle.device.specs.Sector.{payload, torn, Image}
 use Rattle.layout.specs.declared.class.Class.{Class}
 use Rattle.layout.specs.declared.class.Class.TheVariants.{Free, One, Two, Three, Five, Ten, Root}
 use Rattle.layout.specs.declared.header.Header.{Header}
-use Rattle.layout.specs.Classes.{size_of, slots_of}
+use Rattle.layout.specs.Classes.{size_of}
 use Rattle.layout.specs.Bodies.{marks}
 use Rattle.layout.specs.Records.{commit_record_bytes}
 use Rattle.image.specs.Headers.{IsHeaderAt, IsHeaderOf}
 use Rattle.image.specs.Logs.{In, Change, next_number, IsLog}
 use Rattle.image.specs.Reading.{IsPageRecordAt, CommitsAt, Reading, torn_sector}
-use Rattle.image.specs.Examples.{FourInZero, TwoAndCommit, TornAndCommit, WorkedExamples}
 use Rattle.image.proofs.Newest.{one_of_two, in_its_sector, same_header}
 use Rattle.image.proofs.Readings.{read_log}
+use Rattle.model.specs.Sizes.{TakesNew}
+use Rattle.model.specs.Examples.{FourInZero, TwoAndCommit, TornAndCommit, WorkedExamples}
 
-least_four : (d : Class) → 0 < slots_of d → 4 ≤ size_of d → 5 ≤ size_of d
+least_four : (d : Class) → TakesNew d → 4 ≤ size_of d → 5 ≤ size_of d
 least_four Free s l = absurd (omega arith)
 least_four One s l = absurd (omega arith)
 least_four Two s l = absurd (omega arith)
@@ -25,7 +26,7 @@ least_four Five s l = omega arith
 least_four Ten s l = omega arith
 least_four Root s l = absurd (omega arith)
 
-least_six : (d : Class) → 0 < slots_of d → 6 ≤ size_of d → 10 ≤ size_of d
+least_six : (d : Class) → TakesNew d → 6 ≤ size_of d → 10 ≤ size_of d
 least_six Free s l = absurd (omega arith)
 least_six One s l = absurd (omega arith)
 least_six Two s l = absurd (omega arith)
@@ -74,8 +75,8 @@ pub examples : WorkedExamples
 unfolding marks
 examples = record {
   checksums = worked;
-  four_words = (record { some = omega arith; holds = omega arith; least = least_four }, refl);
-  six_words = (record { some = omega arith; holds = omega arith; least = least_six }, refl);
+  four_words = (record { some = omega arith; serves = omega arith; holds = omega arith; least = least_four }, refl);
+  six_words = (record { some = omega arith; serves = omega arith; holds = omega arith; least = least_six }, refl);
   handle = (refl, refl, refl);
   head_word = refl;
   greater_epoch = greater;

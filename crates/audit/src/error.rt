@@ -1,8 +1,9 @@
 //! Why a check tells no numbers.
 ghost use Rattle.std.specs.Prelude.{◌≡◌};
-ghost use Rattle.audit.specs.Errors.{of_stage};
+ghost use Rattle.audit.specs.Errors.{of_stage, of_check};
 
 use image::{ImageRefusal, StageError};
+use model::Refusal;
 use thiserror::Error;
 
 /// A check that tells no numbers answers one of these.
@@ -23,6 +24,18 @@ impl From<StageError> for CheckError {
         match error {
             StageError::Off => CheckError::Off,
             StageError::NoHeap(refusal) => CheckError::NoHeap(refusal),
+        }
+    }
+}
+
+impl From<CheckError> for Refusal {
+    ghost from_gives = { λ error refusal. refusal ≡ of_check error };
+
+    fn from(error: CheckError) -> Refusal {
+        match error {
+            CheckError::Off => Refusal::Off,
+            CheckError::ShortMemory => Refusal::ShortMemory,
+            CheckError::NoHeap(refusal) => Refusal::from(refusal),
         }
     }
 }

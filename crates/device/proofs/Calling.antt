@@ -1,6 +1,7 @@
 -- Calls one after another, and what reads leave.
 -- Assumes nothing.
-use Rattle.std.proofs.Common.{◌≡◌, ℕ, ◌+◌, ◌-◌, ◌≤◌, false, List, [], ◌∷◌, ◌++◌, Err, refl, inl, inr, ap, subst, sym, ◌∙◌, add-one, arith}
+use Rattle.std.proofs.Common.{◌≡◌, ℕ, zero, suc, ◌+◌, ◌-◌, ◌<◌, ◌≤◌, false, List, [], ◌∷◌, ◌++◌, Err, refl, inl, inr, ap, subst, sym, ◌∙◌, add-one, arith}
+use Rattle.std.proofs.lemmas.Bool.{cases_lt}
 use Rattle.device.specs.declared.Device.{Ghosts}
 use Rattle.device.specs.declared.fault.Fault.TheVariants.{Off}
 use Rattle.device.specs.Faults.{Answer}
@@ -64,6 +65,26 @@ module _ {D : Type 0} (g : Ghosts D) where
 
   pub cut_before : (ss ts : List ℕ) (d f : D) → Stopped g (reads ss) d f → Stopped g (reads (ss ++ ts)) d f
   cut_before ss ts d f a = subst (λ (cs : List Call). Stopped g cs d f) (sym (reads_append ss ts)) (stopped_before (reads ss) (reads ts) d f a)
+
+  -- sectors f 0, f 1 and so on are read, and then s, the one that follows
+  pub read_next : (f : ℕ → ℕ) (k s : ℕ) (d e h : D) → s ≡ f k → Ran g (reads (each f k)) d e → Ran g (reads (s ∷ [])) e h
+      → Ran g (reads (each f (k + 1))) d h
+  read_next f k s d e h is a b =
+      subst (λ (ss : List ℕ). Ran g (reads ss) d h) (sym (one_each f k))
+      (read_then (each f k) (f k ∷ []) d e h a (subst (λ (t : ℕ). Ran g (reads (t ∷ [])) e h) is b))
+
+  -- the same where the read of s answers 1: of n sectors, those after s are not read
+  pub cut_next : (f : ℕ → ℕ) (k n s : ℕ) (d e h : D) → s ≡ f k → k < n → Ran g (reads (each f k)) d e → Stopped g (reads (s ∷ [])) e h
+      → Stopped g (reads (each f n)) d h
+  cut_next f k zero s d e h is below a b = absurd (omega arith)
+  cut_next f k (suc n) s d e h is below a b = elim (cases_lt k n) [
+    | inl lt ↦ cut_before (each f n) (f n ∷ []) d h (cut_next f k n s d e h is lt a b)
+    | inr ge ↦
+        let last : k ≡ n = omega arith in
+        cut_then (each f n) (f n ∷ []) d e h
+        (subst (λ (i : ℕ). Ran g (reads (each f i)) d e) last a)
+        (subst (λ (t : ℕ). Stopped g (reads (t ∷ [])) e h) (is ∙ ap f last) b)
+  ]
 
   read_once : (s : ℕ) (r : Answer) (d e : D) → Called g (read s) r d e → OnlyReads (means g d) (means g e)
   read_once s r d e (x, (y, c, m)) = record { count = c.count; contents = c.reads.unchanged; stays_off = c.off.stays }

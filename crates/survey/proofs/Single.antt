@@ -4,9 +4,9 @@ use Rattle.std.proofs.Common.{◌≡◌, List, refl, arith}
 use Rattle.survey.specs.declared.condition.Condition.{Condition}
 use Rattle.survey.specs.declared.condition.Verdict.{Verdict}
 use Rattle.survey.specs.declared.condition.Verdict.TheVariants.{NoSectors, AllTorn, SomeTorn, AllBlank, AllReadable}
-use Rattle.survey.specs.Verdicts.{Judged}
+use Rattle.survey.specs.Verdicts.{IsVerdictOn}
 
-pub one_verdict : (xs : List Condition) (v w : Verdict) → Judged xs v → Judged xs w → w ≡ v
+pub one_verdict : (xs : List Condition) (v w : Verdict) → IsVerdictOn xs v → IsVerdictOn xs w → w ≡ v
 one_verdict xs NoSectors NoSectors p q = refl
 one_verdict xs NoSectors AllTorn p q = absurd (omega arith)
 one_verdict xs NoSectors SomeTorn p q = absurd (omega arith)

@@ -6,10 +6,10 @@ use Rattle.survey.specs.declared.condition.Condition.{Condition}
 use Rattle.survey.specs.declared.condition.Condition.TheVariants.{Blank, Written, Torn}
 
 -- which content a condition stands for
-abbrev pub Shows : Condition → Content → Type 0
-Shows Blank c = c ≡ payload (replicate 60 0)
-Shows Written c = (b : List ℕ) × (c ≡ payload b) × (b ≢ replicate 60 0)
-Shows Torn c = c ≡ torn
+abbrev pub StandsFor : Condition → Content → Type 0
+StandsFor Blank c = c ≡ payload (replicate 60 0)
+StandsFor Written c = (b : List ℕ) × (c ≡ payload b) × (b ≢ replicate 60 0)
+StandsFor Torn c = c ≡ torn
 
 -- the condition that a table gives sector s
 abbrev pub at : List Condition → ℕ → Condition
@@ -17,7 +17,7 @@ at xs s = slice_index_or xs s Blank
 
 -- a table gives each of the first n sectors of an image its condition
 abbrev pub Surveyed : Image → ℕ → List Condition → Type 0
-Surveyed σ n xs = (s : ℕ) → s < n → Shows (at xs s) (σ s)
+Surveyed σ n xs = (s : ℕ) → s < n → StandsFor (at xs s) (σ s)
 
 -- whether two conditions are the same
 abbrev pub same : Condition → Condition → Bool

@@ -10,6 +10,7 @@ use Rattle.survey.specs.Surveys.{SameFrom}
 
 -- memory m, and a table that holds xs before and ys after
 abbrev pub SurveysImage : List ℕ → List Condition → List Condition → Result ℕ ImageError → Type 0
-SurveysImage m xs ys (Ok n) = (n * 64 ≡ length m) × (n ≤ 1024) × Surveyed (held m) n ys × SameFrom n xs ys
+SurveysImage m xs ys (Ok n) = (n * 64 ≡ length m) × (n ≤ 1024)
+    × Surveyed (held m) n ys × SameFrom n xs ys
 SurveysImage m xs ys (Err TooLong) = (65536 < length m) × (ys ≡ xs)
 SurveysImage m xs ys (Err NotWholeRows) = (length m ≤ 65536) × (length m % 64 ≢ 0) × (ys ≡ xs)

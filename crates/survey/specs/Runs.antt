@@ -24,7 +24,9 @@ NextRun xs k from None = (s : ℕ) → from ≤ s → s < length xs → at xs s 
 -- n before the runs of the sectors behind it: it joins the first of them, or is a run of its own
 abbrev pub joins_runs : ℕ → List Run → List Run
 joins_runs n [] = record { first = n; last = n } ∷ []
-joins_runs n (r ∷ rs) = cond (r.first == n + 1) (record { first = n; last = r.last } ∷ rs) (record { first = n; last = n } ∷ r ∷ rs)
+joins_runs n (r ∷ rs) = cond (r.first == n + 1)
+    (record { first = n; last = r.last } ∷ rs)
+    (record { first = n; last = n } ∷ r ∷ rs)
 
 -- all runs of condition k in a table, in order, where n is the number of its first sector
 unfoldable pub runs_in : Condition → ℕ → List Condition → List Run
@@ -45,4 +47,6 @@ sectors_left runs = length runs.conditions.now - runs.from
 
 -- it gives the next run and goes on behind it; where none is left it stays as it is
 abbrev pub GivesRun : Runs → Option Run → Runs → Type 0
-GivesRun old r new = NextRun old.conditions.now old.wanted old.from r × MatchOption r (new ≡ old) (λ run. LooksFrom new old.conditions.now old.wanted (run.last + 1))
+GivesRun old r new = NextRun old.conditions.now old.wanted old.from r
+    × MatchOption r (new ≡ old)
+    (λ run. LooksFrom new old.conditions.now old.wanted (run.last + 1))

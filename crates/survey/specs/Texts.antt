@@ -8,7 +8,9 @@ use Rattle.survey.specs.declared.condition.Verdict.TheVariants.{NoSectors, AllTo
 
 -- "7", or "9-11"
 abbrev pub run_text : Run → List ℕ
-run_text r = cond (r.first == r.last) (decimal r.first) (decimal r.first ++ codes "-" ++ decimal r.last)
+run_text r = cond (r.first == r.last)
+    (decimal r.first)
+    (decimal r.first ++ codes "-" ++ decimal r.last)
 
 -- "2-4, 7", or "none"
 abbrev pub runs_text : List Run → List ℕ

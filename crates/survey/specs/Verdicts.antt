@@ -7,9 +7,10 @@ use Rattle.survey.specs.declared.condition.Verdict.{Verdict}
 use Rattle.survey.specs.declared.condition.Verdict.TheVariants.{NoSectors, AllTorn, SomeTorn, AllBlank, AllReadable}
 use Rattle.survey.specs.Conditions.{count_of}
 
-abbrev pub Judged : List Condition → Verdict → Type 0
-Judged xs NoSectors = length xs ≡ 0
-Judged xs AllTorn = (0 < length xs) × (count_of Torn xs ≡ length xs)
-Judged xs SomeTorn = (0 < count_of Torn xs) × (count_of Torn xs < length xs)
-Judged xs AllBlank = (0 < length xs) × (count_of Torn xs ≡ 0) × (count_of Blank xs ≡ length xs)
-Judged xs AllReadable = (0 < length xs) × (count_of Torn xs ≡ 0) × (count_of Blank xs < length xs)
+abbrev pub IsVerdictOn : List Condition → Verdict → Type 0
+IsVerdictOn xs NoSectors = length xs ≡ 0
+IsVerdictOn xs AllTorn = (0 < length xs) × (count_of Torn xs ≡ length xs)
+IsVerdictOn xs SomeTorn = (0 < count_of Torn xs) × (count_of Torn xs < length xs)
+IsVerdictOn xs AllBlank = (0 < length xs) × (count_of Torn xs ≡ 0) × (count_of Blank xs ≡ length xs)
+IsVerdictOn xs AllReadable = (0 < length xs) × (count_of Torn xs ≡ 0)
+    × (count_of Blank xs < length xs)

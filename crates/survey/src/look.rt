@@ -1,6 +1,7 @@
 //! Telling the condition of every sector of a device.
 ghost use Rattle.std.specs.Prelude.{◌≡◌, ◌↔◌, IsTrue, length, replicate};
-ghost use Rattle.survey.specs.Surveys.{Looked, Surveys};
+ghost use Rattle.device.specs.Means.{means};
+ghost use Rattle.survey.specs.Surveys.{TellsCondition, MakesOneRead, Surveys, MakesReads};
 
 use crate::condition::{Condition, SurveyError};
 use device::{Device, Fault, PAYLOAD};
@@ -14,7 +15,9 @@ fn is_blank(bytes: &[u8]) -> bool
 
 // The condition of one sector. A fault other than a torn sector is passed on.
 fn look<D: Device>(device: &mut D, sector: u32) -> Result<Condition, Fault>
-    ensures { Looked sector result (D.means device.old) (D.means device.new) }
+    ensures told { TellsCondition sector result
+        (means ⟦<D as Device>⟧ device.old) (means ⟦<D as Device>⟧ device.new) }
+    ensures made { MakesOneRead ⟦<D as Device>⟧ sector result device.old device.new }
 {
     let mut bytes = [0u8; PAYLOAD];
     match device.read(sector, &mut bytes) {
@@ -29,7 +32,9 @@ fn look<D: Device>(device: &mut D, sector: u32) -> Result<Condition, Fault>
 // A table with its count, and no vector: a survey allocates nothing.
 #[tactic(auto, using(device::proofs::Found::found_unchanged))]
 pub fn survey<D: Device>(device: &mut D, table: &mut [Condition]) -> Result<usize, SurveyError>
-    ensures { Surveys table.old table.new result (D.means device.old) (D.means device.new) }
+    ensures told { Surveys table.old table.new result
+        (means ⟦<D as Device>⟧ device.old) (means ⟦<D as Device>⟧ device.new) }
+    ensures made { MakesReads ⟦<D as Device>⟧ result device.old device.new }
 {
     let count = device.count();
     if table.len() < count as usize {

@@ -28,7 +28,10 @@ pub fn readable(conditions: &[Condition]) -> usize
 
 // The first sector from `from` on that is in the wanted condition. It goes by number, since a run is told by numbers.
 fn find(conditions: &[Condition], wanted: Condition, from: usize) -> Option<usize>
-    ensures { MatchOption result ((s : ℕ) → from ≤ s → s < length conditions.now → at conditions.now s ≢ wanted) (λ i. (from ≤ i) × (i < length conditions.now) × (at conditions.now i ≡ wanted) × ((s : ℕ) → from ≤ s → s < i → at conditions.now s ≢ wanted)) }
+    ensures { MatchOption result
+        ((s : ℕ) → from ≤ s → s < length conditions.now → at conditions.now s ≢ wanted)
+        (λ i. (from ≤ i) × (i < length conditions.now) × (at conditions.now i ≡ wanted)
+        × ((s : ℕ) → from ≤ s → s < i → at conditions.now s ≢ wanted)) }
 {
     (from..conditions.len()).find(|sector| conditions[*sector] == wanted)
 }
@@ -38,7 +41,8 @@ fn last_of(conditions: &[Condition], first: usize) -> usize
     requires { first < length conditions.now }
     ensures order { (first ≤ result) × (result < length conditions.now) }
     ensures all { (s : ℕ) → first ≤ s → s ≤ result → at conditions.now s ≡ at conditions.now first }
-    ensures ends { result + 1 < length conditions.now → at conditions.now (result + 1) ≢ at conditions.now first }
+    ensures ends { result + 1 < length conditions.now
+        → at conditions.now (result + 1) ≢ at conditions.now first }
 {
     let past = (first..conditions.len()).find(|sector| conditions[*sector] != conditions[first]);
     past.unwrap_or(conditions.len()) - 1

@@ -1,7 +1,7 @@
 //! The verdict on a card.
 ghost use Rattle.std.specs.Prelude.{◌≡◌};
 ghost use Rattle.survey.specs.declared.condition.Verdict.{Verdict};
-ghost use Rattle.survey.specs.Verdicts.{Judged};
+ghost use Rattle.survey.specs.Verdicts.{IsVerdictOn};
 
 use crate::condition::{Condition, Verdict};
 use crate::runs::how_many;
@@ -9,8 +9,8 @@ use crate::runs::how_many;
 /// The verdict that fits the conditions of a card's sectors; no other does.
 #[tactic(auto, using(crate::proofs::Single::one_verdict))]
 pub fn judge(conditions: &[Condition]) -> Verdict
-    ensures fits { Judged conditions.now result }
-    ensures only { (v : Verdict) → Judged conditions.now v → v ≡ result }
+    ensures fits { IsVerdictOn conditions.now result }
+    ensures only { (v : Verdict) → IsVerdictOn conditions.now v → v ≡ result }
 {
     let torn = how_many(conditions, Condition::Torn);
     if conditions.is_empty() {

@@ -11,11 +11,12 @@ use Rattle.device.specs.Faults.{Answer}
 use Rattle.device.specs.Sector.{Content, torn, Image, IsPayload, Found}
 use Rattle.device.specs.Bytes.{content, payload_content}
 use Rattle.device.specs.Rules.{Settled}
+use Rattle.device.specs.Cuts.{IsFoundOf}
 use Rattle.device.specs.Memory.{PutsRow, row_count, row_in, with_row, only}
-use Rattle.device.specs.Waiting.{waiting_at, youngest, MayLeave, shown, may}
+use Rattle.device.specs.Waiting.{waiting_at, youngest, MayLeave, shown, may, with_waiting}
 use Rattle.device.proofs.Lasting.{room, row_long, row_here, row_there, long_kept, held_here, held_there}
-use Rattle.bench.specs.Rows.{durable, row_holds, torn_row, readable}
-use Rattle.bench.specs.Settling.{choose, chosen_row, chosen, Settles, SettlesAt, Reaches}
+use Rattle.bench.specs.Rows.{durable, row_holds, torn_row, readable, rows_mean}
+use Rattle.bench.specs.Settling.{choose, chosen_row, chosen, Settles, SettlesAt, SettlesToEach}
 use Rattle.bench.proofs.Marking.{readable_long, torn_long, holds_readable, holds_torn_row}
 use Rattle.bench.proofs.Choosing.{chooses_torn, chooses_whole, chooses_one, was_possible, number_of}
 
@@ -223,6 +224,13 @@ module _ (cs : List ℕ) (ws ws' : List PendingWrite) (m m' : List ℕ) (empty :
   pub settled_found : Found (may (row_count 61 m) ws (only (durable m))) (shown (row_count 61 m') ws' (durable m'))
   settled_found s = subst (MayLeave (waiting_at (row_count 61 m) ws s) (λ (x : Content). x ≡ durable m s)) (sym (settled_current s)) (was_possible (get_or cs s 0) (waiting_at (row_count 61 m) ws s) (durable m s))
 
+  pub settled_cut : IsFoundOf (with_waiting ws (rows_mean m)) (with_waiting ws' (rows_mean m'))
+  settled_cut = record {
+    count = ap (λ (k : ℕ). min (k / 61) 4294967295) g.long;
+    found = λ s _. settled_found s;
+    only = λ s c _. settled_only s c;
+  }
+
 -- Every image that can be found is settled to by some numbers.
 few_waiting : (n s : ℕ) (ws : List PendingWrite) → length (waiting_at n ws s) ≤ length ws
 unfolding waiting_at
@@ -268,5 +276,5 @@ module _ (ws : List PendingWrite) (m : List ℕ) (few : length ws ≤ 8) (σ : I
     chooses,
   )
 
-pub reaches : (ws : List PendingWrite) (m : List ℕ) → length ws ≤ 8 → Reaches ws m
+pub reaches : (ws : List PendingWrite) (m : List ℕ) → length ws ≤ 8 → SettlesToEach ws m
 reaches ws m few σ found = reached ws m few σ found

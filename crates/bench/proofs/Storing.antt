@@ -9,7 +9,7 @@ use Rattle.device.specs.declared.pending.PendingWrite.{PendingWrite}
 use Rattle.device.specs.Faults.{Answer}
 use Rattle.device.specs.Sector.{payload, IsPayload}
 use Rattle.device.specs.Rules.{WriteCall, FlushCall}
-use Rattle.device.specs.Waiting.{waiting_at, youngest, Absent, NoneFor, Holds, room_in, with_waiting, Keeps}
+use Rattle.device.specs.Waiting.{waiting_at, youngest, Absent, NoneFor, IsYoungest, room_in, with_waiting, Keeps}
 use Rattle.device.proofs.Lists.{absent_waiting, absent_append, waiting_append, youngest_append}
 use Rattle.device.proofs.Waits.{passed_on, past_dropped, flushed, accepted_flush, joins}
 use Rattle.device.specs.Memory.{PutsRow, row_count, with_row}
@@ -109,12 +109,12 @@ joined_few ws w q q' (Ok _) e h p = let k = ap length e in let f = room_few ws h
 joined_few ws w q q' (Err y) e h p = let k = ap length e in let f = room_few ws h in subst (λ (z : Queue PendingWrite). length (waiting z) ≤ 8) (sym p.2) (omega arith)
 
 -- The youngest write to a sector among xs and then ys: that among ys, or else that among xs.
-pub first_piece : (s : ℕ) (ws xs ys : List PendingWrite) → ws ≡ xs ++ ys → (r : Option PendingWrite) → Absent s ys → MatchOption r (Absent s xs) (λ w. IsPayload w.bytes → Holds s w.bytes xs)
-    → MatchOption r (NoneFor s ws) (λ w. IsPayload w.bytes → Holds s w.bytes ws)
+pub first_piece : (s : ℕ) (ws xs ys : List PendingWrite) → ws ≡ xs ++ ys → (r : Option PendingWrite) → Absent s ys → MatchOption r (Absent s xs) (λ w. IsPayload w.bytes → IsYoungest s w.bytes xs)
+    → MatchOption r (NoneFor s ws) (λ w. IsPayload w.bytes → IsYoungest s w.bytes ws)
 first_piece s ws xs ys e None none h = absent_waiting s ws (subst (Absent s) (sym e) (absent_append s xs ys h none))
 first_piece s ws xs ys e (Some w) none h = λ is n c m. subst (λ (z : List PendingWrite). youngest (waiting_at n z s) c ≡ payload w.bytes) (sym e)
     (ap (λ (z : List (List ℕ)). youngest z c) (waiting_append n xs ys s ∙ ap (λ (z : List (List ℕ)). waiting_at n xs s ++ z) (absent_waiting s ys none n) ∙ append-nil (waiting_at n xs s)) ∙ h is n c m)
 
-pub second_piece : (s : ℕ) (ws xs ys : List PendingWrite) → ws ≡ xs ++ ys → (w : PendingWrite) → (IsPayload w.bytes → Holds s w.bytes ys) → IsPayload w.bytes → Holds s w.bytes ws
+pub second_piece : (s : ℕ) (ws xs ys : List PendingWrite) → ws ≡ xs ++ ys → (w : PendingWrite) → (IsPayload w.bytes → IsYoungest s w.bytes ys) → IsPayload w.bytes → IsYoungest s w.bytes ws
 second_piece s ws xs ys e w h is n c m = subst (λ (z : List PendingWrite). youngest (waiting_at n z s) c ≡ payload w.bytes) (sym e)
     (ap (λ (z : List (List ℕ)). youngest z c) (waiting_append n xs ys s) ∙ youngest_append (waiting_at n xs s) (waiting_at n ys s) c ∙ h is n (youngest (waiting_at n xs s) c) m)

@@ -66,10 +66,10 @@ abbrev pub Made : List ℕ → List PendingWrite → Bench → Type 0
 Made m ps d = (memory d ≡ m) × (slots d ≡ ps) × (queued d ≡ [])
 
 -- memory m and places that hold ps are refused for this reason; memory that is not whole rows is told first
-abbrev pub Unfit : List ℕ → List PendingWrite → MemoryError → Type 0
-Unfit m ps NotWholeRows = length m % 61 ≡ 0 → ⊥
-Unfit m ps FewPlaces = (length m % 61 ≡ 0) × (length ps < 8)
+abbrev pub UnfitMemory : List ℕ → List PendingWrite → MemoryError → Type 0
+UnfitMemory m ps NotWholeRows = length m % 61 ≡ 0 → ⊥
+UnfitMemory m ps FewPlaces = (length m % 61 ≡ 0) × (length ps < 8)
 
 -- they are refused, and given back as they were
 abbrev pub Refuses : List ℕ → List PendingWrite → Refused → Type 0
-Refuses m ps e = Unfit m ps e.reason × (e.rows.now ≡ m) × (e.slots.now ≡ ps)
+Refuses m ps e = UnfitMemory m ps e.reason × (e.rows.now ≡ m) × (e.slots.now ≡ ps)

@@ -10,7 +10,9 @@ use Rattle.bench.specs.Rows.{durable, readable, torn_row}
 
 -- Where bs wait, oldest first, the number k chooses one: r as it is, what f makes of the k-th of them, or t.
 abbrev pub choose : {X : Type 0} → (List ℕ → X) → X → ℕ → List (List ℕ) → X → X
-choose f t k bs r = cond (k == 9) (cond (nat_lt 0 (length bs)) t r) (slice_index_or (r ∷ map f bs) k r)
+choose f t k bs r = cond (k == 9)
+    (cond (nat_lt 0 (length bs)) t r)
+    (slice_index_or (r ∷ map f bs) k r)
 
 -- the row that is found where r is the durable one, and the content where c is
 abbrev pub chosen_row : ℕ → List (List ℕ) → List ℕ → List ℕ
@@ -22,16 +24,20 @@ chosen k bs c = choose content torn k bs c
 -- What the numbers cs leave of memory m in front of which ws wait: each row, and so every byte, and each content.
 pub record Settles (cs : List ℕ) (ws : List PendingWrite) (m m' : List ℕ) : Type 0 where
   pub long : length m' ≡ length m
-  pub rows : (s : ℕ) → row_in 61 m' s ≡ chosen_row (slice_index cs s) (waiting_at (row_count 61 m) ws s) (row_in 61 m s)
-  pub contents : (s : ℕ) → durable m' s ≡ chosen (slice_index cs s) (waiting_at (row_count 61 m) ws s) (durable m s)
+  pub rows : (s : ℕ) → row_in 61 m' s
+      ≡ chosen_row (slice_index cs s) (waiting_at (row_count 61 m) ws s) (row_in 61 m s)
+  pub contents : (s : ℕ) → durable m' s
+      ≡ chosen (slice_index cs s) (waiting_at (row_count 61 m) ws s) (durable m s)
 
 -- Every image that a cut may leave has numbers, a byte for each sector, that settle to it.
-abbrev pub Reaches : List PendingWrite → List ℕ → Type 0
-Reaches ws m = (σ : Image) → Found (may (row_count 61 m) ws (only (durable m))) σ
-    → (cs : List ℕ) × (length cs ≡ row_count 61 m) × ((i : ℕ) → slice_index cs i < 256) × ((s : ℕ) → chosen (slice_index cs s) (waiting_at (row_count 61 m) ws s) (durable m s) ≡ σ s)
+abbrev pub SettlesToEach : List PendingWrite → List ℕ → Type 0
+SettlesToEach ws m = (σ : Image) → Found (may (row_count 61 m) ws (only (durable m))) σ
+    → (cs : List ℕ) × (length cs ≡ row_count 61 m) × ((i : ℕ) → slice_index cs i < 256)
+    × ((s : ℕ) → chosen (slice_index cs s) (waiting_at (row_count 61 m) ws s) (durable m s) ≡ σ s)
 
 -- what the number k leaves of sector s
 pub record SettlesAt (k : ℕ) (s : ℕ) (ws : List PendingWrite) (m m' : List ℕ) : Type 0 where
-  pub memory : m' ≡ with_row 61 m s (chosen_row k (waiting_at (row_count 61 m) ws s) (row_in 61 m s))
+  pub memory : m' ≡ with_row 61 m s
+      (chosen_row k (waiting_at (row_count 61 m) ws s) (row_in 61 m s))
   pub whole : length (chosen_row k (waiting_at (row_count 61 m) ws s) (row_in 61 m s)) ≡ 61
   pub content : durable m' s ≡ chosen k (waiting_at (row_count 61 m) ws s) (durable m s)

@@ -15,7 +15,8 @@ stored w m = cond (nat_lt w.sector (row_count 61 m)) (with_row 61 m w.sector (re
 pub record MakesDurable (w : PendingWrite) (m m' : List ℕ) : Type 0 where
   pub whole : IsPayload w.bytes
   pub here : w.sector < row_count 61 m → m' ≡ with_row 61 m w.sector (readable w.bytes)
-  pub rules : w.sector < row_count 61 m → WriteCall w.sector w.bytes (Ok tt) (rows_mean m) (rows_mean m')
+  pub rules : w.sector < row_count 61 m
+      → WriteCall w.sector w.bytes (Ok tt) (rows_mean m) (rows_mean m')
   pub past : row_count 61 m ≤ w.sector → m' ≡ m
 
 -- memory m with all of ws made durable, the first of them first

@@ -1,11 +1,11 @@
 //! The bench device: writes wait, at most eight, until they are made durable; it never turns off.
-ghost use Rattle.std.specs.Prelude.{◌≡◌, ◌%◌, ◌<◌, ◌≤◌, [], ◌∷◌, ◌++◌, length, IfNone, IfSome, Ok, MatchOption, MatchResult};
+ghost use Rattle.std.specs.Prelude.{◌≡◌, ◌%◌, ◌<◌, ◌≤◌, true, [], ◌∷◌, ◌++◌, length, IfNone, IfSome, Ok, MatchOption, MatchResult};
 ghost use Rattle.device.specs.Sector.{IsPayload};
 ghost use Rattle.device.specs.Rules.{WriteCall, FlushCall};
-ghost use Rattle.device.specs.Memory.{row_count};
+ghost use Rattle.device.specs.Memory.{row_count, only};
 ghost use Rattle.device.specs.Queues.{waiting, places};
-ghost use Rattle.device.specs.Waiting.{Absent, NoneFor, Holds, Keeps, room_in, laws_waiting};
-ghost use Rattle.bench.specs.Rows.{rows_mean, rows_laws};
+ghost use Rattle.device.specs.Waiting.{shown, may, Absent, NoneFor, IsYoungest, Keeps, room_in, laws_waiting};
+ghost use Rattle.bench.specs.Rows.{durable, rows_mean, rows_laws};
 ghost use Rattle.bench.specs.Waits.{MakesDurable, room_made};
 
 use crate::rows::{READABLE, ROW, marked, payload_of};
@@ -76,8 +76,10 @@ impl<'a> Bench<'a> {
 
     /// The memory and the places, as they stand now. What still waits is lost: flush or settle first.
     pub fn into_parts(self) -> (&'a mut [u8], &'a mut [PendingWrite])
-        ensures rows { (result.0.now ≡ memory self.entry) × (result.0.ghost_name ≡ memory_at self.entry) }
-        ensures slots { (result.1.now ≡ slots self.entry) × (result.1.ghost_name ≡ slots_at self.entry) }
+        ensures rows { (result.0.now ≡ memory self.entry)
+            × (result.0.ghost_name ≡ memory_at self.entry) }
+        ensures slots { (result.1.now ≡ slots self.entry)
+            × (result.1.ghost_name ≡ slots_at self.entry) }
     {
         let Bench { rows, pending } = self;
         (rows.into_bytes(), pending.into_slots())
@@ -99,7 +101,9 @@ impl Bench<'_> {
 
     // Takes the oldest write that waits out of the queue.
     fn take_oldest(&mut self) -> Option<PendingWrite>
-        ensures taken { MatchOption result (queued self.old ≡ []) (λ w. queued self.old ≡ w ∷ queued self.new) }
+        ensures taken { MatchOption result
+            (queued self.old ≡ [])
+            (λ w. queued self.old ≡ w ∷ queued self.new) }
         ensures empty { IfNone result (queued self.new ≡ []) }
         ensures rows { self.new.rows ≡ self.old.rows }
         ensures slots { slots self.new ≡ slots self.old }
@@ -149,7 +153,7 @@ impl Bench<'_> {
     fn youngest(&self, sector: u32) -> Option<PendingWrite>
         ensures found { MatchOption result
             (NoneFor sector (queued self.now))
-            (λ w. IsPayload w.bytes → Holds sector w.bytes (queued self.now)) }
+            (λ w. IsPayload w.bytes → IsYoungest sector w.bytes (queued self.now)) }
         ensures to { IfSome result (λ w. w.sector ≡ sector) }
     {
         let (older, younger) = self.pending.as_slices();
@@ -165,7 +169,7 @@ impl Bench<'_> {
 fn last_to(writes: &[PendingWrite], sector: u32) -> Option<PendingWrite>
     ensures found { MatchOption result
         (Absent sector writes.now)
-        (λ w. IsPayload w.bytes → Holds sector w.bytes writes.now) }
+        (λ w. IsPayload w.bytes → IsYoungest sector w.bytes writes.now) }
     ensures to { IfSome result (λ w. w.sector ≡ sector) }
 {
     let at = youngest_to(writes, sector)?;
@@ -173,9 +177,16 @@ fn last_to(writes: &[PendingWrite], sector: u32) -> Option<PendingWrite>
 }
 
 impl<'a> Device for Bench<'a> {
-    ghost use Rattle.bench.specs.Benches.{AfterWrite, AfterFlush, means, memory, queued};
+    ghost use Rattle.bench.specs.Benches.{AfterWrite, AfterFlush, memory, queued};
 
-    ghost means = { means };
+    // Together these are `means`, of which the clauses above speak.
+    ghost count = { λ d. row_count 61 (memory d) };
+
+    ghost on = { λ _. true };
+
+    ghost current = { λ d. shown (row_count 61 (memory d)) (queued d) (durable (memory d)) };
+
+    ghost possible = { λ d. may (row_count 61 (memory d)) (queued d) (only (durable (memory d))) };
 
     ghost laws = { λ d. laws_waiting (queued d) (rows_mean (memory d)) (rows_laws (memory d)) };
 
@@ -190,7 +201,7 @@ impl<'a> Device for Bench<'a> {
     }
 
     fn is_on(&self) -> bool {
-        true // always
+        true
     }
 
     #[tactic(auto, unfolding(device::specs::Memory::held_by))]
@@ -211,7 +222,7 @@ impl<'a> Device for Bench<'a> {
     }
 
     fn flush(&mut self) -> Result<(), Fault> {
-        self.put_all(); // oldest first
+        self.put_all();
         Ok(())
     }
 }

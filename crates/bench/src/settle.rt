@@ -2,11 +2,12 @@
 ghost use Rattle.std.specs.Prelude.{◌≡◌, ℕ, ◌<◌, ◌≤◌, [], ◌++◌, length, filter, ◌==◌, slice_get, slice_index};
 ghost use Rattle.device.specs.Sector.{Found};
 ghost use Rattle.device.specs.Rules.{Settled};
+ghost use Rattle.device.specs.Cuts.{IsFoundOf};
 ghost use Rattle.device.specs.Memory.{row_count, row_in, with_row};
 ghost use Rattle.device.specs.Waiting.{waiting_at};
 ghost use Rattle.bench.specs.Rows.{durable, torn_row};
 ghost use Rattle.bench.specs.Benches.{SameMemory, means, memory, memory_at, queued, slots};
-ghost use Rattle.bench.specs.Settling.{Settles, SettlesAt, Reaches, chosen};
+ghost use Rattle.bench.specs.Settling.{Settles, SettlesAt, SettlesToEach, chosen};
 
 use crate::bench::Bench;
 use crate::rows::{READABLE, TORN, marked};
@@ -25,14 +26,16 @@ impl Bench<'_> {
     /// Stands for a power cut: a number for each sector chooses what is found there, and then nothing waits. 0 keeps the durable
     /// content, k takes the k-th oldest write that waits for the sector, 9 makes it torn if one waits; others count as 0.
     pub fn settle(&mut self, numbers: &[u8])
-        ensures settles { Settles numbers.now (queued self.old) (memory self.old) (memory self.new) }
+        ensures cut { IsFoundOf (means self.old) (means self.new) }
+        ensures settles { Settles numbers.now (queued self.old)
+            (memory self.old) (memory self.new) }
         ensures current { (s : ℕ) → (means self.new).current s
             ≡ chosen (slice_index numbers.now s)
             (waiting_at (row_count 61 (memory self.old)) (queued self.old) s)
             (durable (memory self.old) s) }
         ensures only { Settled (means self.new).current (means self.new).possible }
         ensures found { Found (means self.old).possible (means self.new).current }
-        ensures reaches { Reaches (queued self.old) (memory self.old) }
+        ensures reaches { SettlesToEach (queued self.old) (memory self.old) }
         ensures pending { queued self.new ≡ [] }
         ensures slots { slots self.new ≡ slots self.old }
         ensures same { SameMemory self.old self.new }
@@ -47,7 +50,8 @@ impl Bench<'_> {
     // Leaves in a sector what the number chooses. Its write still waits.
     fn settle_sector(&mut self, sector: u32, number: u8)
         requires { sector < row_count 61 (memory self.old) }
-        ensures settled { SettlesAt number sector (queued self.old) (memory self.old) (memory self.new) }
+        ensures settled { SettlesAt number sector (queued self.old)
+            (memory self.old) (memory self.new) }
         ensures pending { self.new.pending ≡ self.old.pending }
         ensures same { memory_at self.new ≡ memory_at self.old }
     {

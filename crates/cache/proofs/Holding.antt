@@ -9,7 +9,7 @@ use Rattle.device.specs.Rules.{Meaning, WriteCall}
 use Rattle.device.specs.Waiting.{Absent, YoungestAt, room_in, with_waiting}
 use Rattle.device.proofs.Lists.{absent_waiting, absent_from}
 use Rattle.device.proofs.Waits.{joins, replaces, keeps_write}
-use Rattle.cache.specs.Held.{Distinct, Replaced, Takes, MakesRoom}
+use Rattle.cache.specs.Held.{Distinct, Replaced, TakesIn, MakesRoom}
 
 absent_at : (s : ℕ) (ws : List PendingWrite) (k : ℕ) (d : PendingWrite) → Absent s ws → k < length ws → (get_or ws k d).sector ≡ s → ⊥
 absent_at s [] k d a h e = omega arith
@@ -51,7 +51,7 @@ joined_rules w ws ws₁ m m₁ is r on here =
     keeps_write w.sector w.bytes (with_waiting ws m) (with_waiting ws₁ m₁) (with_waiting (ws₁ ++ w ∷ []) m₁) on r.2
     (joins ws₁ m₁ w (subst (λ (n : ℕ). w.sector < n) (sym r.2.count) here) is (r.3 on))
 
-pub joined : (w : PendingWrite) (ws ws₁ : List PendingWrite) → Absent w.sector ws → ws₁ ≡ room_in ws → Takes w ws (ws₁ ++ w ∷ [])
+pub joined : (w : PendingWrite) (ws ws₁ : List PendingWrite) → Absent w.sector ws → ws₁ ≡ room_in ws → TakesIn w ws (ws₁ ++ w ∷ [])
 joined w ws ws₁ none r = inr (none, ap (λ (z : List PendingWrite). z ++ w ∷ []) r)
 
 absent_last : (s : ℕ) (ws : List PendingWrite) (w : PendingWrite) → Absent s ws → (w.sector ≡ s → ⊥) → Absent s (ws ++ w ∷ [])
@@ -75,6 +75,6 @@ distinct_room true ws w d h = distinct_last ws w d h
 distinct_room false [] w d h = distinct_last [] w d h
 distinct_room false (v ∷ ws) w d h = distinct_last ws w d.1 h.1
 
-pub takes_distinct : (w : PendingWrite) (ws ws' : List PendingWrite) → Takes w ws ws' → Distinct ws → Distinct ws'
+pub takes_distinct : (w : PendingWrite) (ws ws' : List PendingWrite) → TakesIn w ws ws' → Distinct ws → Distinct ws'
 takes_distinct w ws ws' (inl p) d = subst Distinct (sym p.now_held) (distinct_placed p.before p.after p.old w p.same (subst Distinct p.held d))
 takes_distinct w ws ws' (inr p) d = subst Distinct (sym p.1) (distinct_room (ltb (length ws) 8) ws w d p.0)

@@ -3,6 +3,7 @@
 use Rattle.std.proofs.Common.{◌≡◌, ℕ, ◌+◌, ◌<◌, true, false, ltb, List, [], ◌∷◌, length, get_or, drop, Ok, Err, sym, refl, ap, ◌∙◌, subst, inl, inr, arith}
 use Rattle.std.proofs.lemmas.Bool.{cases_lt, le-ltb, cond-false}
 use Rattle.std.proofs.lemmas.List.{drop_more}
+use Rattle.device.specs.declared.Device.{Ghosts}
 use Rattle.device.specs.declared.fault.Fault.TheVariants.{Off, NoSector, Torn}
 use Rattle.device.specs.declared.fault.Fault.{Fault}
 use Rattle.device.specs.declared.pending.PendingWrite.{PendingWrite}
@@ -80,13 +81,13 @@ module _ (ws : List PendingWrite) (k : ℕ) (d : PendingWrite) (m m₁ m₂ : Me
   all_cut e p = let s = stops (get_or ws k d) e m₁ m₂ p in (s.off, cut_in ws (drop (k + 1) ws) (get_or ws k d) e m m₁ m₂ before s)
 
 -- What is still to be passed on carries on what has been: it tells of all.
-module _ {D : Type 0} (Means : D → Meaning) (WriteMade : D → ℕ → List ℕ → Answer → D → Type 0) (k : ℕ) (ws : List PendingWrite) (v : PendingWrite) (d d₁ d₂ : D) (inside : k < length ws)
-    (so_far : (r : Answer) (e : D) → AllPassedOn Means WriteMade (drop k ws) r d₁ e → AllPassedOn Means WriteMade ws r d e) where
-  all_told : (r : Answer) (e : D) → AllPassedOn Means WriteMade (get_or ws k v ∷ drop (k + 1) ws) r d₁ e → AllPassedOn Means WriteMade ws r d e
-  all_told r e h = so_far r e (subst (λ (z : List PendingWrite). AllPassedOn Means WriteMade z r d₁ e) (sym (drop_more ws k v inside)) h)
+module _ {D : Type 0} (g : Ghosts D) (k : ℕ) (ws : List PendingWrite) (v : PendingWrite) (d d₁ d₂ : D) (inside : k < length ws)
+    (so_far : (r : Answer) (e : D) → AllPassedOn g (drop k ws) r d₁ e → AllPassedOn g ws r d e) where
+  all_told : (r : Answer) (e : D) → AllPassedOn g (get_or ws k v ∷ drop (k + 1) ws) r d₁ e → AllPassedOn g ws r d e
+  all_told r e h = so_far r e (subst (λ (z : List PendingWrite). AllPassedOn g z r d₁ e) (sym (drop_more ws k v inside)) h)
 
-  pub one_more_sent : PassedOn Means WriteMade (get_or ws k v) (Ok tt) d₁ d₂ → (r : Answer) (e : D) → AllPassedOn Means WriteMade (drop (k + 1) ws) r d₂ e → AllPassedOn Means WriteMade ws r d e
+  pub one_more_sent : PassedOn g (get_or ws k v) (Ok tt) d₁ d₂ → (r : Answer) (e : D) → AllPassedOn g (drop (k + 1) ws) r d₂ e → AllPassedOn g ws r d e
   one_more_sent p r e rest = all_told r e (inr (d₂, p, rest))
 
-  pub last_sent : (f : Fault) → PassedOn Means WriteMade (get_or ws k v) (Err f) d₁ d₂ → AllPassedOn Means WriteMade ws (Err f) d d₂
+  pub last_sent : (f : Fault) → PassedOn g (get_or ws k v) (Err f) d₁ d₂ → AllPassedOn g ws (Err f) d d₂
   last_sent f p = all_told (Err f) d₂ (inl ((λ e. err_returned (Err f) f refl (ap returned e)), p))

@@ -35,12 +35,12 @@ pub record Replaced (w : PendingWrite) (ws ws' : List PendingWrite) : Type 0 whe
   pub now_held : ws' ≡ before ++ w ∷ after
 
 -- what is held once the write w is accepted: in the place of an earlier write to its sector, or else as the youngest
-abbrev pub Takes : PendingWrite → List PendingWrite → List PendingWrite → Type 0
-Takes w ws ws' = Replaced w ws ws' ⊎ (Absent w.sector ws × (ws' ≡ room_in ws ++ w ∷ []))
+abbrev pub TakesIn : PendingWrite → List PendingWrite → List PendingWrite → Type 0
+TakesIn w ws ws' = Replaced w ws ws' ⊎ (Absent w.sector ws × (ws' ≡ room_in ws ++ w ∷ []))
 
 -- what is held after a write of b to sector s, by its answer: refused, it changes nothing that is held
 abbrev pub HeldAfter : ℕ → List ℕ → Answer → List PendingWrite → List PendingWrite → Type 0
-HeldAfter s b (Ok _) ws ws' = Takes (record { sector = s; bytes = b }) ws ws'
+HeldAfter s b (Ok _) ws ws' = TakesIn (record { sector = s; bytes = b }) ws ws'
 HeldAfter s b (Err _) ws ws' = ws' ≡ ws
 
 -- after a flush nothing is held; refused, all that was
@@ -62,8 +62,10 @@ pub record Passed (w : PendingWrite) (r : Answer) (m m' : Meaning) : Type 0 wher
 
 -- there is room for one more; refused, the device below turned off and all that was held still is
 abbrev pub MakesRoom : Answer → List PendingWrite → List PendingWrite → Meaning → Meaning → Type 0
-MakesRoom (Ok _) ws ws' m m' = (ws' ≡ room_in ws) × (length ws' < 8) × Keeps (with_waiting ws m) (with_waiting ws' m') × (m.on ≡ true → m'.on ≡ true)
-MakesRoom (Err e) ws ws' m m' = (e ≡ Off) × (ws' ≡ ws) × Cut (with_waiting ws m) (with_waiting ws m')
+MakesRoom (Ok _) ws ws' m m' = (ws' ≡ room_in ws) × (length ws' < 8)
+    × Keeps (with_waiting ws m) (with_waiting ws' m') × (m.on ≡ true → m'.on ≡ true)
+MakesRoom (Err e) ws ws' m m' = (e ≡ Off) × (ws' ≡ ws)
+    × Cut (with_waiting ws m) (with_waiting ws m')
 
 -- all that is held is below; refused, the device below turned off
 abbrev pub PassesAll : Answer → List PendingWrite → Meaning → Meaning → Type 0

@@ -1,9 +1,10 @@
 //! A write-back cache over any device: it holds up to eight written sectors and passes them on when it must.
 #![tactic(auto)]
 
-ghost use Rattle.std.specs.Prelude.{◌≡◌, ◌<◌, ◌≤◌, true, ◌⊎◌, [], length, MatchOption, MatchResult, slice_index_or};
+ghost use Rattle.std.specs.Prelude.{◌≡◌, ◌<◌, ◌≤◌, true, ◌⊎◌, [], length, IfNone, MatchOption, MatchResult, slice_index_or};
 ghost use Rattle.device.specs.Rules.{WriteCall};
-ghost use Rattle.device.specs.Waiting.{Absent, YoungestAt, with_waiting, laws_waiting};
+ghost use Rattle.device.specs.Means.{means};
+ghost use Rattle.device.specs.Waiting.{shown, may, Absent, NoneFor, YoungestAt, laws_waiting};
 ghost use Rattle.cache.specs.Held.{Distinct, Distinct-prop, Passed, MakesRoom, PassesAll, TurnsAway, HeldAfter};
 ghost use Rattle.cache.specs.Below.{PassedOn, AllPassedOn};
 
@@ -48,8 +49,9 @@ impl<D: Device> Cache<D> {
     // Turns a call away if the device below is off, or else does not have the sector.
     fn admit(&self, sector: u32) -> Result<(), Fault>
         ensures { MatchResult result
-            (λ _. ((D.means (device_below self.now)).on ≡ true) × (sector < (D.means (device_below self.now)).count))
-            (λ fault. TurnsAway sector (D.means (device_below self.now)) fault) }
+            (λ _. (D.on (device_below self.now) ≡ true)
+            × (sector < D.count (device_below self.now)))
+            (λ fault. TurnsAway sector (means ⟦<D as Device>⟧ (device_below self.now)) fault) }
     {
         if !self.below.is_on() {
             return Err(Fault::Off);
@@ -61,23 +63,26 @@ impl<D: Device> Cache<D> {
     }
 
     // The place of the youngest write to the sector.
-    #[tactic(auto, using(device::proofs::Lists::none_absent))]
+    #[tactic(auto, using(device::proofs::Lists::none_absent, device::proofs::Lists::absent_waiting))]
     fn place_of(&self, sector: u32) -> Option<usize>
-        ensures { MatchOption result
+        ensures found { MatchOption result
             (Absent sector (held_writes self.now))
             (YoungestAt sector (held_writes self.now)) }
+        ensures none { IfNone result (NoneFor sector (held_writes self.now)) }
     {
         youngest_to(&self.held, sector)
     }
 
     // Makes room for one more: if as many are held as may be, the one held longest is passed on.
     fn make_room(&mut self) -> Result<(), Fault>
-        ensures free { length (held_writes self.old) < 8 → device_below self.new ≡ device_below self.old }
+        ensures free { length (held_writes self.old) < 8
+            → device_below self.new ≡ device_below self.old }
         ensures evicts { length (held_writes self.old) ≡ 8 → (d : PendingWrite)
-            → PassedOn D.means D.writes (slice_index_or (held_writes self.old) 0 d) result
+            → PassedOn ⟦<D as Device>⟧ (slice_index_or (held_writes self.old) 0 d) result
             (device_below self.old) (device_below self.new) }
         ensures room { MakesRoom result (held_writes self.old) (held_writes self.new)
-            (D.means (device_below self.old)) (D.means (device_below self.new)) }
+            (means ⟦<D as Device>⟧ (device_below self.old))
+            (means ⟦<D as Device>⟧ (device_below self.new)) }
     {
         if self.held.is_full() {
             pass_on(&mut self.below, self.held[0])?;
@@ -86,16 +91,20 @@ impl<D: Device> Cache<D> {
         Ok(())
     }
 
-    // Takes a write, in the place of an earlier one to its sector or as the youngest.
+    // Takes a write in: in the place of an earlier one to its sector, or as the youngest.
     fn hold(&mut self, write: PendingWrite) -> Result<(), Fault>
-        ensures rules { (D.means (device_below self.old)).on ≡ true
-            → write.sector < (D.means (device_below self.old)).count
-            → WriteCall write.sector write.bytes result (cached D.means self.old) (cached D.means self.new) }
-        ensures held { HeldAfter write.sector write.bytes result (held_writes self.old) (held_writes self.new) }
-        ensures free { (length (held_writes self.old) < 8) ⊎ (Absent write.sector (held_writes self.old) → ⊥)
+        ensures rules { D.on (device_below self.old) ≡ true
+            → write.sector < D.count (device_below self.old)
+            → WriteCall write.sector write.bytes result
+            (cached ⟦<D as Device>⟧ self.old) (cached ⟦<D as Device>⟧ self.new) }
+        ensures held { HeldAfter write.sector write.bytes result
+            (held_writes self.old) (held_writes self.new) }
+        ensures free { (length (held_writes self.old) < 8)
+            ⊎ (Absent write.sector (held_writes self.old) → ⊥)
             → device_below self.new ≡ device_below self.old }
-        ensures evicts { length (held_writes self.old) ≡ 8 → Absent write.sector (held_writes self.old)
-            → (d : PendingWrite) → PassedOn D.means D.writes (slice_index_or (held_writes self.old) 0 d) result
+        ensures evicts { length (held_writes self.old) ≡ 8
+            → Absent write.sector (held_writes self.old) → (d : PendingWrite)
+            → PassedOn ⟦<D as Device>⟧ (slice_index_or (held_writes self.old) 0 d) result
             (device_below self.old) (device_below self.new) }
     {
         if let Some(place) = self.place_of(write.sector) {
@@ -110,8 +119,9 @@ impl<D: Device> Cache<D> {
 
 // Passes a write on to the device below; a write to a sector that this does not have is dropped.
 fn pass_on<D: Device>(below: &mut D, write: PendingWrite) -> Result<(), Fault>
-    ensures rules { Passed write result (D.means below.old) (D.means below.new) }
-    ensures on { PassedOn D.means D.writes write result below.old below.new }
+    ensures rules { Passed write result
+        (means ⟦<D as Device>⟧ below.old) (means ⟦<D as Device>⟧ below.new) }
+    ensures on { PassedOn ⟦<D as Device>⟧ write result below.old below.new }
 {
     if write.sector >= below.count() {
         return Ok(());
@@ -121,8 +131,9 @@ fn pass_on<D: Device>(below: &mut D, write: PendingWrite) -> Result<(), Fault>
 
 // Passes the writes on, the first one first.
 fn pass_all_on<D: Device>(below: &mut D, writes: &[PendingWrite]) -> Result<(), Fault>
-    ensures rules { PassesAll result writes.now (D.means below.old) (D.means below.new) }
-    ensures on { AllPassedOn D.means D.writes writes.now result below.old below.new }
+    ensures rules { PassesAll result writes.now
+        (means ⟦<D as Device>⟧ below.old) (means ⟦<D as Device>⟧ below.new) }
+    ensures on { AllPassedOn ⟦<D as Device>⟧ writes.now result below.old below.new }
 {
     for write in writes {
         pass_on(below, *write)?;
@@ -131,28 +142,38 @@ fn pass_all_on<D: Device>(below: &mut D, writes: &[PendingWrite]) -> Result<(), 
 }
 
 impl<D: Device> Device for Cache<D> {
-    ghost use Rattle.cache.specs.Caches.{held_writes, device_below, cached, ReadsBelow, WritesBelow, FlushesBelow};
+    ghost use Rattle.cache.specs.Caches.{held_writes, device_below, ReadsBelow, WritesBelow, FlushesBelow};
 
-    ghost means = { cached D.Device.means };
+    // Together these are `cached`, of which the clauses above speak.
+    ghost count = { λ c. D.count (device_below c) };
 
-    ghost laws = { λ c. laws_waiting (held_writes c) (D.Device.means (device_below c)) (D.Device.laws (device_below c)) };
+    ghost on = { λ c. D.on (device_below c) };
 
-    ghost reads = { λ c s x y r c'. ReadsBelow D.Device.means D.Device.reads s x y r c c' };
+    ghost current = { λ c. shown (D.count (device_below c)) (held_writes c)
+        (D.current (device_below c)) };
 
-    ghost writes = { λ c s b r c'. WritesBelow D.Device.means D.Device.writes s b r c c' };
+    ghost possible = { λ c. may (D.count (device_below c)) (held_writes c)
+        (D.possible (device_below c)) };
 
-    ghost flushes = { λ c r c'. FlushesBelow D.Device.means D.Device.writes D.Device.flushes r c c' };
+    ghost laws = { λ c. laws_waiting (held_writes c) (means ⟦<D as Device>⟧ (device_below c))
+        (D.laws (device_below c)) };
+
+    ghost reads = { λ c s x y r c'. ReadsBelow ⟦<D as Device>⟧ s x y r c c' };
+
+    ghost writes = { λ c s b r c'. WritesBelow ⟦<D as Device>⟧ s b r c c' };
+
+    ghost flushes = { λ c r c'. FlushesBelow ⟦<D as Device>⟧ r c c' };
 
     fn count(&self) -> u32 {
-        self.below.count() // nothing is added
+        self.below.count()
     }
 
     fn is_on(&self) -> bool {
-        self.below.is_on() // it has no switch of its own
+        self.below.is_on()
     }
 
     fn read(&mut self, sector: u32, into: &mut [u8; PAYLOAD]) -> Result<(), Fault> {
-        self.admit(sector)?; // refused, it leaves the caller's bytes
+        self.admit(sector)?;
         match self.place_of(sector) {
             Some(place) => {
                 self.held[place].copy_to(into);
@@ -163,7 +184,7 @@ impl<D: Device> Device for Cache<D> {
     }
 
     fn write(&mut self, sector: u32, bytes: &[u8; PAYLOAD]) -> Result<(), Fault> {
-        self.admit(sector)?; // refused, it does nothing below
+        self.admit(sector)?;
         let bytes = *bytes;
         self.hold(PendingWrite { sector, bytes })
     }

@@ -81,7 +81,8 @@ fn every_choice_is_found(rt: HostRuntime) -> Result<(), Fail> {
     for (first, in_first) in FIRST {
         for (second, in_second) in SECOND {
             let rows = [in_first, in_second, OLD[2]];
-            let numbers = [first, second, first]; // no number tears the last sector, or finds a write there
+            // no number tears the last sector, or finds a write there
+            let numbers = [first, second, first];
             assert!(rt; leaves(OLD, &WRITES, &numbers, false, rows)?);
             assert!(rt;
                 leaves(OLD, &WRITES, &numbers, true, rows)?,

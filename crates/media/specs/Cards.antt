@@ -15,5 +15,7 @@ memory_at d = bytes_at d.rows
 -- A write of b to sector s puts it into its row, with its checksum, and leaves every other byte; refused, it leaves them all.
 -- The memory is still the same piece.
 pub record PutsInRow (s : ℕ) (b : List ℕ) (r : Answer) (d d' : RowImage) : Type 0 where
-  pub bytes : MatchResult r (λ _. memory d' ≡ with_row 64 (memory d) s (row_for s b)) (λ _. memory d' ≡ memory d)
+  pub bytes : MatchResult r
+      (λ _. memory d' ≡ with_row 64 (memory d) s (row_for s b))
+      (λ _. memory d' ≡ memory d)
   pub same : memory_at d' ≡ memory_at d

@@ -19,7 +19,8 @@ row_for_length s b = length-append b _
 pub sound_payload : (s : ℕ) (r : List ℕ) → sound s r ≡ true → IsPayload (take 60 r)
 sound_payload s r e =
     let p = and_parts (bytes_eq r (row_for s (take 60 r))) (all_bytes (take 60 r)) e in
-    let h = ap length ((bytes_eq-Decides r (row_for s (take 60 r))).0 p.0) ∙ row_for_length s (take 60 r) in
+    let h = ap length ((bytes_eq-Decides r (row_for s (take 60 r))).0 p.0)
+    ∙ row_for_length s (take 60 r) in
     let n = length-take 60 r in
     record { sixty = omega arith; bytes = bytes_below (take 60 r) p.1 }
 

@@ -1,6 +1,7 @@
 //! The row image: a device over the caller's memory, 64 bytes a sector. What is written lasts at once, and it never turns off.
-ghost use Rattle.std.specs.Prelude.{◌≡◌, ◌%◌, length, MatchResult, ◌≢◌};
-ghost use Rattle.media.specs.Rows.{rows_mean};
+ghost use Rattle.std.specs.Prelude.{◌≡◌, ◌%◌, true, length, MatchResult, ◌≢◌};
+ghost use Rattle.device.specs.Memory.{row_count, only};
+ghost use Rattle.media.specs.Rows.{held};
 ghost use Rattle.media.specs.Lawful.{rows_laws};
 
 use crate::memory::{MemoryError, Refused};
@@ -20,7 +21,8 @@ impl<'a> RowImage<'a> {
     pub fn new(rows: &'a mut [u8]) -> Result<RowImage<'a>, Refused<'a>>
         ensures made { MatchResult result
             (λ d. (length rows.old % 64 ≡ 0) × (memory d ≡ rows.old))
-            (λ e. (length rows.old % 64 ≢ 0) × (e.reason ≡ MemoryError.NotWholeRows) × (e.rows.now ≡ rows.old)) }
+            (λ e. (length rows.old % 64 ≢ 0)
+            × (e.reason ≡ MemoryError.NotWholeRows) × (e.rows.now ≡ rows.old)) }
         ensures same { MatchResult result
             (λ d. memory_at d ≡ rows.entry.ghost_name)
             (λ e. e.rows.ghost_name ≡ rows.entry.ghost_name) }
@@ -46,7 +48,14 @@ impl<'a> RowImage<'a> {
 impl<'a> Device for RowImage<'a> {
     ghost use Rattle.media.specs.Cards.{memory, PutsInRow};
 
-    ghost means = { λ d. rows_mean (memory d) };
+    // Together these are `rows_mean` of its memory.
+    ghost count = { λ d. row_count 64 (memory d) };
+
+    ghost on = { λ _. true };
+
+    ghost current = { λ d. held (memory d) };
+
+    ghost possible = { λ d. only (held (memory d)) };
 
     ghost laws = { λ d. rows_laws (memory d) };
 
@@ -61,7 +70,7 @@ impl<'a> Device for RowImage<'a> {
     }
 
     fn is_on(&self) -> bool {
-        true // always
+        true
     }
 
     #[tactic(auto, unfolding(device::specs::Memory::held_by))]
@@ -73,7 +82,7 @@ impl<'a> Device for RowImage<'a> {
     }
 
     fn write(&mut self, sector: u32, bytes: &[u8; PAYLOAD]) -> Result<(), Fault> {
-        self.rows.put(sector, &row_for(sector, bytes)) // it lasts at once
+        self.rows.put(sector, &row_for(sector, bytes))
     }
 
     fn flush(&mut self) -> Result<(), Fault> {

@@ -24,7 +24,9 @@ fn seal(sector: u32, bytes: &[u8]) -> [u8; 4]
 // The payload of a sector's row.
 pub(crate) fn payload_of(sector: u32, row: &[u8]) -> Result<&[u8], Fault>
     requires { length row.now ≡ 64 }
-    ensures { MatchResult result (λ bytes. (row_holds sector row.now ≡ payload bytes.now) × (length bytes.now ≡ 60)) (λ fault. (row_holds sector row.now ≡ torn) × (fault ≡ Fault.Torn)) }
+    ensures { MatchResult result
+        (λ bytes. (row_holds sector row.now ≡ payload bytes.now) × (length bytes.now ≡ 60))
+        (λ fault. (row_holds sector row.now ≡ torn) × (fault ≡ Fault.Torn)) }
 {
     let (bytes, tail) = row.split_at(PAYLOAD);
     if tail == seal(sector, bytes).as_slice() {

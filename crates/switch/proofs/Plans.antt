@@ -5,33 +5,33 @@ use Rattle.std.proofs.lemmas.Bool.{cases_lt}
 use Rattle.switch.specs.declared.fuse.Fate.TheVariants.{Passed, Cut}
 use Rattle.switch.specs.declared.fuse.Fuse.{Fuse}
 use Rattle.switch.specs.declared.fuse.Fuse.TheVariants.{Blown, Lasting, After}
-use Rattle.switch.specs.Fates.{fate, fuse_for, Ran, Planned}
+use Rattle.switch.specs.Fates.{fate, fuse_for, AfterCalls, Planned}
 
-ran_blown : (n : ℕ) (f : Fuse) → Ran n Blown f → f ≡ Blown
-ran_blown zero f r = r
-ran_blown (suc n) f r = ran_blown n f (subst (λ (g : Fuse). Ran n g f) r.1 r.2)
+after_blown : (n : ℕ) (f : Fuse) → AfterCalls n Blown f → f ≡ Blown
+after_blown zero f r = r
+after_blown (suc n) f r = after_blown n f (subst (λ (g : Fuse). AfterCalls n g f) r.1 r.2)
 
-ran_lasting : (n : ℕ) (f : Fuse) → Ran n Lasting f → f ≡ Lasting
-ran_lasting zero f r = r
-ran_lasting (suc n) f r = ran_lasting n f (subst (λ (g : Fuse). Ran n g f) r.1 r.2)
+after_lasting : (n : ℕ) (f : Fuse) → AfterCalls n Lasting f → f ≡ Lasting
+after_lasting zero f r = r
+after_lasting (suc n) f r = after_lasting n f (subst (λ (g : Fuse). AfterCalls n g f) r.1 r.2)
 
-ran_on : (b n : ℕ) (f : Fuse) → Ran n (After b) f → n ≤ b → f ≡ After (b - n)
-ran_on b zero f r h = r ∙ ap After (omega arith)
-ran_on zero (suc n) f r h = absurd (omega arith)
-ran_on (suc b) (suc n) f r h = ran_on b n f (subst (λ (g : Fuse). Ran n g f) r.1 r.2) (omega arith) ∙ ap After (omega arith)
+after_few : (b n : ℕ) (f : Fuse) → AfterCalls n (After b) f → n ≤ b → f ≡ After (b - n)
+after_few b zero f r h = r ∙ ap After (omega arith)
+after_few zero (suc n) f r h = absurd (omega arith)
+after_few (suc b) (suc n) f r h = after_few b n f (subst (λ (g : Fuse). AfterCalls n g f) r.1 r.2) (omega arith) ∙ ap After (omega arith)
 
-ran_out : (b n : ℕ) (f : Fuse) → Ran n (After b) f → b < n → f ≡ Blown
-ran_out b zero f r h = absurd (omega arith)
-ran_out zero (suc n) f r h = ran_blown n f (subst (λ (g : Fuse). Ran n g f) r.1 r.2)
-ran_out (suc b) (suc n) f r h = ran_out b n f (subst (λ (g : Fuse). Ran n g f) r.1 r.2) (omega arith)
+after_more : (b n : ℕ) (f : Fuse) → AfterCalls n (After b) f → b < n → f ≡ Blown
+after_more b zero f r h = absurd (omega arith)
+after_more zero (suc n) f r h = after_blown n f (subst (λ (g : Fuse). AfterCalls n g f) r.1 r.2)
+after_more (suc b) (suc n) f r h = after_more b n f (subst (λ (g : Fuse). AfterCalls n g f) r.1 r.2) (omega arith)
 
 more_to_come : (j : ℕ) → 0 < j → fate (After j) ≡ Passed
 more_to_come zero h = absurd (omega arith)
 more_to_come (suc j) h = refl
 
 -- a switch turns off within the call that was chosen, and in no other
-pub planned : (k n : ℕ) (f : Fuse) → Ran n (fuse_for k) f → Planned k n f
-planned zero n f r = subst (Planned zero n) (sym (ran_lasting n f r)) (record {
+pub planned : (k n : ℕ) (f : Fuse) → AfterCalls n (fuse_for k) f → Planned k n f
+planned zero n f r = subst (Planned zero n) (sym (after_lasting n f r)) (record {
   on = λ _. refl;
   off = λ h _. absurd (omega arith);
   passed = λ _. refl;
@@ -39,14 +39,14 @@ planned zero n f r = subst (Planned zero n) (sym (ran_lasting n f r)) (record {
   refused = λ h _. absurd (omega arith);
 })
 planned (suc b) n f r = elim (cases_lt b n) [
-  | inl h ↦ subst (Planned (suc b) n) (sym (ran_out b n f r h)) (record {
+  | inl h ↦ subst (Planned (suc b) n) (sym (after_more b n f r h)) (record {
     on = λ p. elim p [ inl e ↦ absurd (omega arith) | inr e ↦ absurd (omega arith) ];
     off = λ _ _. refl;
     passed = λ p. elim p [ inl e ↦ absurd (omega arith) | inr e ↦ absurd (omega arith) ];
     cut = λ e. absurd (omega arith);
     refused = λ _ _. refl;
   })
-  | inr h ↦ subst (Planned (suc b) n) (sym (ran_on b n f r h)) (record {
+  | inr h ↦ subst (Planned (suc b) n) (sym (after_few b n f r h)) (record {
     on = λ _. refl;
     off = λ _ e. absurd (omega arith);
     passed = λ p. elim p [ inl e ↦ absurd (omega arith) | inr e ↦ more_to_come (b - n) (omega arith) ];

@@ -26,16 +26,16 @@ fate (After zero) = Cut
 fate (After (suc _)) = Passed
 
 -- a call takes f to f': one that is passed on is counted, the one that is cut blows the fuse, and a blown fuse stays so
-abbrev pub Counts : Fuse → Fuse → Type 0
-Counts Blown f' = f' ≡ Blown
-Counts Lasting f' = f' ≡ Lasting
-Counts (After zero) f' = f' ≡ Blown
-Counts (After (suc calls)) f' = f' ≡ After calls
+abbrev pub CountsDown : Fuse → Fuse → Type 0
+CountsDown Blown f' = f' ≡ Blown
+CountsDown Lasting f' = f' ≡ Lasting
+CountsDown (After zero) f' = f' ≡ Blown
+CountsDown (After (suc calls)) f' = f' ≡ After calls
 
 -- n calls take f to f'
-abbrev pub Ran : ℕ → Fuse → Fuse → Type 0
-Ran zero f f' = f' ≡ f
-Ran (suc n) f f' = (g : Fuse) × Counts f g × Ran n g f'
+abbrev pub AfterCalls : ℕ → Fuse → Fuse → Type 0
+AfterCalls zero f f' = f' ≡ f
+AfterCalls (suc n) f f' = (g : Fuse) × CountsDown f g × AfterCalls n g f'
 
 -- What is so after n calls on a switch that is to turn off within its k-th, or never if k is 0, where f is its fuse then:
 -- whether it has not turned off, and what comes of the next call.

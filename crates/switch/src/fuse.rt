@@ -1,6 +1,6 @@
 //! When a switch turns off: it counts its calls, and turns off within one of them.
 ghost use Rattle.std.specs.Prelude.{◌≡◌};
-ghost use Rattle.switch.specs.Fates.{fate, is_on, Counts};
+ghost use Rattle.switch.specs.Fates.{fate, is_on, CountsDown};
 
 /// Whether the write within which a switch turns off still reaches the device below.
 #[derive(Clone, Copy, Debug, PartialEq, Eq)]
@@ -44,7 +44,7 @@ impl Fuse {
     /// Counts a call, and tells what comes of it.
     pub(crate) fn count_call(&mut self) -> Fate
         ensures told { result ≡ fate self.old }
-        ensures counted { Counts self.old self.new }
+        ensures counted { CountsDown self.old self.new }
     {
         match *self {
             Fuse::Blown => Fate::Refused,

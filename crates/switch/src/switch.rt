@@ -1,7 +1,8 @@
 //! A power switch: a device over any device, which turns off within a chosen call.
 ghost use Rattle.std.specs.Prelude.{◌≡◌, ℕ, true, ◌&&◌};
-ghost use Rattle.switch.specs.Fates.{Ran, Planned, fuse_for, is_on};
-ghost use Rattle.switch.specs.Below.{device_below, fuse_of, last_of, ReadsBelow, WritesBelow, FlushesBelow, switched, switched_laws};
+ghost use Rattle.device.specs.Means.{means};
+ghost use Rattle.switch.specs.Fates.{AfterCalls, Planned, fuse_for, is_on};
+ghost use Rattle.switch.specs.Below.{device_below, fuse_of, last_of, ReadsBelow, WritesBelow, FlushesBelow, switched_laws};
 
 use crate::fuse::{Fate, Fuse, LastWrite};
 use device::{Device, Fault, PAYLOAD};
@@ -20,7 +21,7 @@ impl<D: Device> Switch<D> {
         ensures below { device_below result ≡ below }
         ensures on { is_on (fuse_of result) ≡ true }
         ensures fuse { fuse_of result ≡ fuse_for call }
-        ensures planned { (n : ℕ) (f : Fuse) → Ran n (fuse_of result) f → Planned call n f }
+        ensures planned { (n : ℕ) (f : Fuse) → AfterCalls n (fuse_of result) f → Planned call n f }
         ensures last { last_of result ≡ last }
     {
         let fuse = call.checked_sub(1).map_or(Fuse::Lasting, Fuse::After);
@@ -43,15 +44,23 @@ impl<D: Device> Switch<D> {
 }
 
 impl<D: Device> Device for Switch<D> {
-    ghost means = { λ d. switched (is_on (fuse_of d)) (D.Device.means (device_below d)) };
+    // Together these are `switched` of what the device below means.
+    ghost count = { λ d. D.count (device_below d) };
 
-    ghost laws = { λ d. switched_laws (is_on (fuse_of d)) (D.Device.means (device_below d)) (D.Device.laws (device_below d)) };
+    ghost on = { λ d. is_on (fuse_of d) && D.on (device_below d) };
 
-    ghost reads = { λ d s x y r d'. ReadsBelow D.Device.reads s x y r d d' };
+    ghost current = { λ d. D.current (device_below d) };
 
-    ghost writes = { λ d s b r d'. WritesBelow D.Device.means D.Device.writes s b r d d' };
+    ghost possible = { λ d. D.possible (device_below d) };
 
-    ghost flushes = { λ d r d'. FlushesBelow D.Device.flushes r d d' };
+    ghost laws = { λ d. switched_laws (is_on (fuse_of d))
+        (means ⟦<D as Device>⟧ (device_below d)) (D.laws (device_below d)) };
+
+    ghost reads = { λ d s x y r d'. ReadsBelow ⟦<D as Device>⟧ s x y r d d' };
+
+    ghost writes = { λ d s b r d'. WritesBelow ⟦<D as Device>⟧ s b r d d' };
+
+    ghost flushes = { λ d r d'. FlushesBelow ⟦<D as Device>⟧ r d d' };
 
     fn count(&self) -> u32 {
         self.below.count()

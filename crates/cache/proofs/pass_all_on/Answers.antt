@@ -11,7 +11,7 @@ loop-write-preserved g c =
     let p = c.in_ok-pass_on.ensures in
     record {
       keeps = one_more_on c.args.writes.now c.loop-write.write-index _ _ _ _ (omega arith) inv.keeps p.rules;
-      sent = one_more_sent _ _ c.loop-write.write-index c.args.writes.now _ _ _ _ (omega arith) inv.sent p.on;
+      sent = one_more_sent _ c.loop-write.write-index c.args.writes.now _ _ _ _ (omega arith) inv.sent p.on;
     }
 
 pub returns-in_err-pass_on-clause-rules : goal.returns-in_err-pass_on-clause-rules
@@ -23,4 +23,4 @@ pub returns-in_err-pass_on-clause-on : goal.returns-in_err-pass_on-clause-on
 returns-in_err-pass_on-clause-on g c =
     let p = err_from_is_err_and c.from_residual.result c.from_residual.ensures.1 in
     let inv = c.loop-write.invariant in
-    rw (p.1, p.2) (last_sent _ _ c.loop-write.write-index c.args.writes.now _ _ _ _ (omega arith) inv.sent _ c.in_err-pass_on.ensures.on)
+    rw (p.1, p.2) (last_sent _ c.loop-write.write-index c.args.writes.now _ _ _ _ (omega arith) inv.sent _ c.in_err-pass_on.ensures.on)

@@ -1,6 +1,7 @@
 -- Those before the next one are below, and no content is lost.
 -- Assumes nothing.
 use Rattle.std.proofs.Common.{drop}
+use Rattle.device.specs.Means.{means}
 use Rattle.device.specs.Waiting.{with_waiting, Keeps}
 use Rattle.device.specs.Faults.{Answer}
 use Rattle.cache.specs.Below.{AllPassedOn}
@@ -8,6 +9,6 @@ use Rattle.cache.proofs.pass_all_on.Given as goal
 
 abbrev pub invariant-loop-write : goal.invariant-loop-write
 invariant-loop-write g l = record {
-  keeps : Keeps (with_waiting l.writes (g.D.Device.means l.fn.below)) (with_waiting (drop l.write-index l.writes) (g.D.Device.means l.below));
-  sent : (r : Answer) (e : g.row.D.Denot) → AllPassedOn g.D.Device.means g.D.Device.writes (drop l.write-index l.writes) r l.below e → AllPassedOn g.D.Device.means g.D.Device.writes l.writes r l.fn.below e;
+  keeps : Keeps (with_waiting l.writes (means g.D.Device l.fn.below)) (with_waiting (drop l.write-index l.writes) (means g.D.Device l.below));
+  sent : (r : Answer) (e : g.row.D.Denot) → AllPassedOn g.D.Device (drop l.write-index l.writes) r l.below e → AllPassedOn g.D.Device l.writes r l.fn.below e;
 }

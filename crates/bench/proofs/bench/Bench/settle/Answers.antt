@@ -6,7 +6,7 @@ use Rattle.device.specs.declared.queue.Queue.{Queue}
 use Rattle.device.specs.Queues.{waiting}
 use Rattle.bench.specs.Benches.{memory, queued}
 use Rattle.bench.specs.Settling.{SettlesAt}
-use Rattle.bench.proofs.Settled.{one_more_before, all_settled, settled_current, settled_only, settled_found, reaches}
+use Rattle.bench.proofs.Settled.{one_more_before, all_settled, settled_current, settled_only, settled_found, settled_cut, reaches}
 use Rattle.bench.proofs.bench.Bench.settle.Goals as goal
 
 pub loop-sector-preserved : goal.loop-sector-preserved
@@ -31,6 +31,7 @@ returns c =
     let empty = c.clear.ensures.empty in
     let all = all_settled c.loop-sector.sector cs ws m _ (let e = inv.count in omega arith) inv.settled in
     record {
+      cut = settled_cut cs ws _ m _ empty all;
       settles = all;
       current = settled_current cs ws _ m _ empty all;
       only = settled_only cs ws _ m _ empty all;

@@ -1,16 +1,17 @@
 //! The check for programs in C: a static library over `audit`.
 #![tactic(auto)]
 
-ghost use Rattle.std.specs.Prelude.{◌≡◌, ◌%◌, ◌<◌, ◌++◌, length, drop, Err, Result};
+ghost use Rattle.std.specs.Prelude.{◌≡◌, ◌%◌, ◌<◌, ◌++◌, length, drop, Result};
 ghost use Rattle.image.specs.declared.counts.Counts.{Counts as Numbers};
-ghost use Rattle.image.specs.declared.refusal.Refusal.{Refusal as Reason};
+ghost use Rattle.audit.specs.declared.error.CheckError.{CheckError as Reason};
 ghost use Rattle.device.specs.Memory.{row_count};
-ghost use Rattle.audit_c.specs.Told.{number_of, values_of, Unfit, ChecksRows};
+ghost use Rattle.audit_c.specs.Told.{number_of, values_of, four_of, Unfit, ChecksRows};
 
-use audit::check;
-use image::{Counts, Refusal};
+use audit::{CheckError, check};
+use image::{Counts, ImageRefusal};
 use layout::{HANDLES, MOST_SECTORS};
 use media::{ROW, RowImage};
+use model::Refusal;
 
 // The most bytes that a card image has.
 const LONGEST: usize = MOST_SECTORS * ROW;
@@ -27,9 +28,11 @@ pub extern "C" fn goarfleki_check(
     told: &mut [u64],
 ) -> u32
     ensures unfit { Unfit image.now told.old
-        → (result ≡ 18) × (marks.new ≡ marks.old) × (numbers.new ≡ numbers.old) × (told.new ≡ told.old) }
+        → (result ≡ 18) × (marks.new ≡ marks.old) × (numbers.new ≡ numbers.old)
+        × (told.new ≡ told.old) }
     ensures checked { ¬ Unfit image.now told.old
-        → (r : Result Numbers Reason) × ChecksRows image.now marks.old marks.new numbers.old numbers.new r
+        → (r : Result Numbers Reason)
+        × ChecksRows image.now marks.old marks.new numbers.old numbers.new r
         × (result ≡ number_of r) × (told.new ≡ values_of r ++ drop 4 told.old) }
 {
     if told.len() < 4 || !image.len().is_multiple_of(ROW) {
@@ -41,7 +44,11 @@ pub extern "C" fn goarfleki_check(
 }
 
 // The check of a card image that is only read: a row image is made over a copy.
-fn check_copy(image: &[u8], marks: &mut [u8], numbers: &mut [u16]) -> Result<Counts, Refusal>
+fn check_copy(
+    image: &[u8],
+    marks: &mut [u8],
+    numbers: &mut [u16],
+) -> Result<Counts, CheckError>
     requires { length image.now % 64 ≡ 0 }
     ensures { ChecksRows image.now marks.old marks.new numbers.old numbers.new result }
 {
@@ -64,32 +71,36 @@ fn sectors_of(image: &[u8]) -> u32
 }
 
 // The check of more sectors than a card may have: no header is valid there.
-fn check_too_many(image: &[u8], marks: &mut [u8], numbers: &mut [u16]) -> Result<Counts, Refusal>
+fn check_too_many(
+    image: &[u8],
+    marks: &mut [u8],
+    numbers: &mut [u16],
+) -> Result<Counts, CheckError>
     requires whole { length image.now % 64 ≡ 0 }
     requires long { 65536 < length image.now }
     ensures { ChecksRows image.now marks.old marks.new numbers.old numbers.new result }
 {
     let wanted = HANDLES as usize * sectors_of(image) as usize;
     if marks.len() < wanted || numbers.len() < wanted {
-        return Err(Refusal::ShortMemory);
+        return Err(CheckError::ShortMemory);
     }
     marks[..wanted].fill(0);
     numbers[..wanted].fill(0);
-    Err(Refusal::NoHeader)
+    Err(CheckError::NoHeap(ImageRefusal::NoHeader))
 }
 
 // The number that is returned for an answer.
-fn number_of(answer: Result<Counts, Refusal>) -> u32
+fn number_of(answer: Result<Counts, CheckError>) -> u32
     ensures { result ≡ number_of answer }
 {
     match answer {
         Ok(_) => 0,
-        Err(refusal) => u32::from(refusal.number()),
+        Err(error) => u32::from(Refusal::from(error).number()),
     }
 }
 
 // The values that are told of an answer.
-fn values_of(answer: Result<Counts, Refusal>) -> [u64; 4]
+fn values_of(answer: Result<Counts, CheckError>) -> [u64; 4]
     ensures { result ≡ values_of answer }
 {
     match answer {
@@ -102,13 +113,13 @@ fn values_of(answer: Result<Counts, Refusal>) -> [u64; 4]
             } = counts;
             [transactions, free_pages, objects, reachable].map(u64::from)
         }
-        Err(refusal) => values_of_refusal(refusal),
+        Err(error) => values_of_refusal(Refusal::from(error)),
     }
 }
 
 // The values of a refusal, and 0 where it has fewer.
 fn values_of_refusal(refusal: Refusal) -> [u64; 4]
-    ensures { result ≡ values_of (Err refusal) }
+    ensures { result ≡ four_of refusal }
 {
     let sector = refusal.sector().unwrap_or(0);
     let word = refusal.word().unwrap_or(0);

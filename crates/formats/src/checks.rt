@@ -1,7 +1,7 @@
 //! The check of a card, with more and with less memory than it wants.
-use audit::check;
+use audit::{CheckError, check};
 use device::{Device, PAYLOAD};
-use image::{Counts, Refusal};
+use image::{Counts, ImageRefusal};
 use layout::HANDLES;
 use media::{ROW, RowImage};
 
@@ -79,7 +79,7 @@ fn refuses(rt: HostRuntime) {
     let mut numbers = [1; WANTED];
     assert_eq!(rt;
         check(&mut card, &mut marks, &mut numbers),
-        Err(Refusal::NoHeader)
+        Err(CheckError::NoHeap(ImageRefusal::NoHeader))
     );
     assert!(rt; marks == [0; WANTED] && numbers == [0; WANTED]);
 }
@@ -92,7 +92,7 @@ fn wants_memory(rt: HostRuntime) {
         let mut marks = [1; WANTED];
         let mut numbers = [1; WANTED];
         let refused = check(&mut card, &mut marks[..first], &mut numbers[..second]);
-        assert_eq!(rt; refused, Err(Refusal::ShortMemory));
+        assert_eq!(rt; refused, Err(CheckError::ShortMemory));
         assert!(rt; marks == [1; WANTED] && numbers == [1; WANTED]);
     }
 }

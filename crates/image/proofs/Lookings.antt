@@ -1,6 +1,6 @@
 -- What reads tell, one after another.
 -- Assumes nothing.
-use Rattle.std.proofs.Common.{◌≡◌, ℕ, zero, suc, ◌+◌, ◌-◌, ◌<◌, ◌≤◌, add-zero, append-nil, append_assoc, true, false, ◌⊎◌, List, [], ◌∷◌, ◌++◌, Some, None, Option, MatchOption, Ok, Err, Result, MatchResult, sym, refl, ◌∙◌, ap, subst, inl, inr, arith}
+use Rattle.std.proofs.Common.{◌≡◌, ℕ, ◌+◌, ◌<◌, ◌≤◌, true, false, ◌⊎◌, List, [], ◌∷◌, ◌++◌, Some, None, Option, MatchOption, Ok, Err, Result, MatchResult, sym, refl, subst, inl, inr, arith}
 use Rattle.std.proofs.lemmas.Bool.{false≢true, cases_Bool, both_ways, cases_lt}
 use Rattle.std.specs.Option.{ok_or}
 use Rattle.std.specs.Result.{IsErr, IsErrAnd}
@@ -13,7 +13,7 @@ use Rattle.device.specs.Rules.{Meaning, Laws, ReadCall}
 use Rattle.device.specs.Means.{means}
 use Rattle.device.specs.Calling.{reads, each, Called, Ran, Stopped}
 use Rattle.device.specs.Calling.Call.{read}
-use Rattle.device.proofs.Calling.{read_then, cut_then, cut_before, read_all, one_each}
+use Rattle.device.proofs.Calling.{read_then, read_next, cut_then, cut_next, cut_before, read_all}
 use Rattle.image.specs.Looking.{Looked, LookedTillOff, Fails, FindsBy, Finds}
 use Rattle.image.specs.Phases.{Just}
 use Rattle.image.specs.declared.refusal.ImageRefusal.{ImageRefusal}
@@ -22,19 +22,6 @@ use Rattle.image.specs.declared.refusal.StageError.TheVariants.{Off as TurnedOff
 
 pub both_lists : {us vs ss ts : List ℕ} → us ≡ ss → vs ≡ ts → us ++ vs ≡ ss ++ ts
 both_lists e f = cc
-
--- a row of sectors begins with each shorter one
-row_more : (f : ℕ → ℕ) (k m : ℕ) → (us : List ℕ) × (each f (k + m) ≡ each f k ++ us)
-row_more f k zero = ([], ap (each f) (add-zero k) ∙ sym (append-nil (each f k)))
-row_more f k (suc m) =
-    let (us, e) = row_more f k m in
-    let s : k + suc m ≡ suc (k + m) = omega arith in
-    (us ++ f (k + m) ∷ [], ap (each f) s ∙ ap (λ (vs : List ℕ). vs ++ f (k + m) ∷ []) e ∙ append_assoc (each f k) us (f (k + m) ∷ []))
-
-row_of : (f : ℕ → ℕ) (k n : ℕ) → k ≤ n → (us : List ℕ) × (each f n ≡ each f k ++ us)
-row_of f k n l =
-    let (us, e) = row_more f k (n - k) in
-    let s : n ≡ k + (n - k) = omega arith in (us, ap (each f) s ∙ e)
 
 -- a call that can only be turned off is so
 pub turned_off : {A B : Type 0} (X : A → Type 0) (Y : Type 0) (r : Result A B) → Y → IsErr r → MatchResult r X (λ _. Y)
@@ -114,18 +101,14 @@ module _ {D : Type 0} (g : Ghosts D) where
   pub ran_more : (f : ℕ → ℕ) (k j t : ℕ) (d e e' : D) (ts : List ℕ) → Ran g (reads (each f k)) d e → Ran g (reads ts) e e'
       → ts ≡ t ∷ [] → t ≡ f k → j ≡ k + 1 → Ran g (reads (each f j)) d e'
   ran_more f k j t d e e' ts a b x y z =
-      subst (λ (us : List ℕ). Ran g (reads us) d e')
-      (ap (λ (vs : List ℕ). each f k ++ vs) (x ∙ ap (λ (u : ℕ). u ∷ []) y) ∙ sym (one_each f k) ∙ sym (ap (each f) z))
-      (read_then g (each f k) ts d e e' a b)
+      subst (λ (i : ℕ). Ran g (reads (each f i)) d e') (sym z)
+      (read_next g f k t d e e' y a (subst (λ (us : List ℕ). Ran g (reads us) e e') x b))
 
   -- the device turns off at the next of a row of sectors
   pub off_in_row : (f : ℕ → ℕ) (k n t : ℕ) (d e e' : D) → Ran g (reads (each f k)) d e → LookedTillOff g e e' (Just (t ∷ []))
       → t ≡ f k → k < n → LookedTillOff g d e' (Just (each f n))
   off_in_row f k n t d e e' a (ts, b, x) y l =
-      let (us, z) = row_of f (k + 1) n (omega arith) in
-      let c = subst (λ (vs : List ℕ). Stopped g (reads vs) d e') (ap (λ (vs : List ℕ). each f k ++ vs) (x ∙ ap (λ (u : ℕ). u ∷ []) y) ∙ sym (one_each f k))
-      (cut_then g (each f k) ts d e e' a b) in
-      (each f n, subst (λ (vs : List ℕ). Stopped g (reads vs) d e') (sym z) (cut_before g (each f (k + 1)) us d e' c), refl)
+      (each f n, cut_next g f k n t d e e' y l a (subst (λ (us : List ℕ). Stopped g (reads us) e e') x b), refl)
 
   -- what a call finds behind reads of ss
   pub finds_then : {A : Type 0} (ss : List ℕ) (P Q : List ℕ → Type 0) (T U : List ℕ → ℕ → Image → A → Type 0) (E F : List ℕ → ℕ → Image → ImageRefusal → Type 0)

@@ -12,5 +12,6 @@ use Rattle.image.specs.Reading.{IsPageRecordAt, Ends}
 -- a page record of this epoch and position; a commit record of these; or something at which reading ends, whatever was read before
 abbrev pub IsEntryAt : Image → Header → ℕ → Entry → Type 0
 IsEntryAt σ h p (Page s) = (c : Change) × IsPageRecordAt σ h p c × (c.home ≡ s)
-IsEntryAt σ h p (Commit n k) = (n ≤ most_records) × (n < 2 ^ 32) × (k < 2 ^ 32) × (σ (2 + p) ≡ payload (commit_record_bytes h.epoch p n k))
+IsEntryAt σ h p (Commit n k) = (n ≤ most_records) × (n < 2 ^ 32) × (k < 2 ^ 32)
+    × (σ (2 + p) ≡ payload (commit_record_bytes h.epoch p n k))
 IsEntryAt σ h p End = (ts : List (List Change)) (t : List Change) → Ends σ h p ts t

@@ -59,7 +59,8 @@ pub record FirstDangling (H : Heap) (s j : ℕ) : Type 0 where
 -- a root refers to the object, or an object does that can be reached
 pub data Reaches (H : Heap) : Handle → Type 0 where
   root : (j : ℕ) (h : Handle) → RefersTo (page_of H H.root) j h → Reaches H h
-  object : (g : Handle) (j : ℕ) (h : Handle) → Reaches H g → Takes (page_of H (sector_of g)).class (slot_of g) j
+  object : (g : Handle) (j : ℕ) (h : Handle) → Reaches H g
+      → Takes (page_of H (sector_of g)).class (slot_of g) j
       → RefersTo (page_of H (sector_of g)) j h → Reaches H h
 
 -- n is the number of objects that can be reached: they are listed, each once

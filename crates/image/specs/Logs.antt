@@ -33,8 +33,10 @@ pub record Good (has : Has) (h : Header) (q k : ℕ) (t : List Change) : Type 0 
   pub few : length t ≤ most_records
   pub number : k < 2 ^ 32
   pub homes : (i : ℕ) → i < length t → IsPage h.geometry (change_at t i).home
-  pub pages : (i : ℕ) → i < length t → has (2 + (q + i)) (payload (page_record_bytes h.epoch (q + i) (change_at t i).home (change_at t i).body))
-  pub commit : has (2 + (q + length t)) (payload (commit_record_bytes h.epoch (q + length t) (length t) k))
+  pub pages : (i : ℕ) → i < length t → has (2 + (q + i))
+      (payload (page_record_bytes h.epoch (q + i) (change_at t i).home (change_at t i).body))
+  pub commit : has (2 + (q + length t))
+      (payload (commit_record_bytes h.epoch (q + length t) (length t) k))
 
 -- the number of the transaction that may follow ts
 abbrev pub next_number : Header → List (List Change) → ℕ

@@ -124,7 +124,8 @@ IsFaultOf σ ts s q = ((q ≡ Torn s) × IsTornHome σ ts s) ⊎ ((q ≡ Unlawfu
 -- the same of a home, whatever the log has: no bytes of a home of its sector can be read there
 abbrev pub NoHome : Image → ℕ → ImageRefusal → Type 0
 NoHome σ s q = ((q ≡ Torn s) × (σ s ≡ torn))
-    ⊎ ((q ≡ Unlawful s) × ((b : List ℕ) × (σ s ≡ payload b) × ((body : List ℕ) → home_bytes s body ≢ b)))
+    ⊎ ((q ≡ Unlawful s) × ((b : List ℕ)
+    × (σ s ≡ payload b) × ((body : List ℕ) → home_bytes s body ≢ b)))
 
 -- What is read of the page of sector s where the log is x, whatever the image is: the sector b in which its body stands, in the last 48
 -- bytes; and if that is no record, it is a home of s.

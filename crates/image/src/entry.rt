@@ -36,7 +36,8 @@ pub(crate) fn entry_at<D: Device>(
 
 // What it is if it has these bytes.
 fn entry_of(bytes: &[u8; PAYLOAD], header: Header, position: u16) -> Entry
-    ensures { (σ : Image) → σ (2 + position) ≡ payload bytes.now → IsEntryAt σ header position result }
+    ensures { (σ : Image) → σ (log_sector position) ≡ payload bytes.now
+        → IsEntryAt σ header position result }
 {
     match Record::read(bytes, header.geometry) {
         Record::Page(page) if page.epoch == header.epoch && page.position == position =>

@@ -52,21 +52,24 @@ impl PagesJudged {
 
     /// The count of transactions.
     pub fn transactions(&self) -> u32
-        ensures { (n : ℕ) (σ : Image) (H : Heap) → IsJudgedOf n σ H self.now → result ≡ H.transactions }
+        ensures { (n : ℕ) (σ : Image) (H : Heap) → IsJudgedOf n σ H self.now
+            → result ≡ H.transactions }
     {
         self.log.transactions()
     }
 
     /// How many pages are free.
     pub fn free_pages(&self) -> u32
-        ensures { (n : ℕ) (σ : Image) (H : Heap) → IsJudgedOf n σ H self.now → result ≡ count_by is_free H.pages }
+        ensures { (n : ℕ) (σ : Image) (H : Heap) → IsJudgedOf n σ H self.now
+            → result ≡ count_by is_free H.pages }
     {
         self.free_pages
     }
 
     /// How many objects there are.
     pub fn objects(&self) -> u32
-        ensures { (n : ℕ) (σ : Image) (H : Heap) → IsJudgedOf n σ H self.now → result ≡ sum_by objects_of H.pages }
+        ensures { (n : ℕ) (σ : Image) (H : Heap) → IsJudgedOf n σ H self.now
+            → result ≡ sum_by objects_of H.pages }
     {
         self.objects
     }

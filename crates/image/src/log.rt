@@ -170,7 +170,9 @@ fn note_home(named: &mut [bool; MOST_SECTORS], sector: u32)
 fn first_later<D: Device>(device: &mut D, header: Header) -> Result<Option<u32>, Off>
     ensures { TellsBy ⟦<D as Device>⟧ device.old device.new
         (Just (each log_sector header.geometry.log))
-        (λ ss n σ o. MatchOption o (FindsNoneLater header ss n σ) (FindsLater header ss n σ)) result }
+        (λ ss n σ o. MatchOption o
+        (FindsNoneLater header ss n σ)
+        (FindsLater header ss n σ)) result }
 {
     for sector in LOG..header.geometry.root() {
         if is_later_at(device, header.epoch, sector)? {

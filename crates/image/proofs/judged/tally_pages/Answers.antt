@@ -33,7 +33,7 @@ loop-sector-preserved g c =
     let k = s - root_of x.header.geometry in
     let here : root_of x.header.geometry + k ≡ s = omega arith in
     record {
-      ran = ran_more g.D.Device (nth_body x) k (s + 1 - root_of x.header.geometry) _ _ _ _ ss inv.ran ran row (ap (body_sector x) (sym here)) (omega arith);
+      ran = ran_more g.D.Device (nth_body x) k (s + 1 - root_of x.header.geometry) (body_sector x s) _ _ _ ss inv.ran ran row (ap (body_sector x) (sym here)) (omega arith);
       on = λ _. on;
       found = λ r. let y = inv.found r in
           one_more_page _ _ x r s _ _ c.in_ok-page.page (omega arith, omega arith) y t (c.add.ensures (root_of x.header.geometry) y.pages (sym y.at) y.tally);

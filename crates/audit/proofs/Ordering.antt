@@ -71,13 +71,10 @@ module _ (n : ℕ) (σ : Image) where
 
 -- what reads leave, whether one of them was cut or not
 module _ {D : Type 0} (g : Ghosts D) (d f : D) where
-  pub looked_stays : (P : List ℕ → Type 0) → Looked g d f P → OnlyReads (means g d) (means g f)
-  looked_stays P (ss, a, x) = read_all g ss d f a
-
-  pub cut_stays : (P : List ℕ → Type 0) → LookedTillOff g d f P → OnlyReads (means g d) (means g f)
+  cut_stays : (P : List ℕ → Type 0) → LookedTillOff g d f P → OnlyReads (means g d) (means g f)
   cut_stays P (ss, a, x) = read_cut g ss d f a
 
-  pub looked_off : (P : List ℕ → Type 0) → LookedTillOff g d f P → g.on f ≡ false
+  looked_off : (P : List ℕ → Type 0) → LookedTillOff g d f P → g.on f ≡ false
   looked_off P (ss, a, x) = cut_off g ss d f a
 
 -- the page that is told is the one that is taken out

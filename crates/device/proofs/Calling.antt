@@ -1,25 +1,19 @@
 -- Calls one after another, and what reads leave.
 -- Assumes nothing.
-use Rattle.std.proofs.Common.{◌≡◌, ℕ, zero, suc, ◌+◌, ◌-◌, ◌<◌, ◌≤◌, false, List, [], ◌∷◌, ◌++◌, Err, refl, inl, inr, ap, subst, sym, ◌∙◌, add-one, arith}
+use Rattle.std.proofs.Common.{◌≡◌, ℕ, zero, suc, ◌+◌, ◌<◌, false, List, [], ◌∷◌, ◌++◌, Err, refl, inl, inr, ap, subst, sym, ◌∙◌, add-one, arith}
 use Rattle.std.proofs.lemmas.Bool.{cases_lt}
 use Rattle.device.specs.declared.Device.{Ghosts}
 use Rattle.device.specs.declared.fault.Fault.TheVariants.{Off}
 use Rattle.device.specs.Faults.{Answer}
 use Rattle.device.specs.Rules.{Meaning}
 use Rattle.device.specs.Means.{means}
-use Rattle.device.specs.Calling.{Call, reads, each, sectors_from, Called, Ran, Stopped, OnlyReads}
+use Rattle.device.specs.Calling.{Call, reads, each, Called, Ran, Stopped, OnlyReads}
 use Rattle.device.specs.Calling.Call.{read}
 use Rattle.device.proofs.Calls.{unchanged_then}
 
 -- one more of a list of sectors
 pub one_each : (f : ℕ → ℕ) (k : ℕ) → each f (k + 1) ≡ each f k ++ f k ∷ []
 one_each f k = rw add-one
-
-pub one_sector : (a s : ℕ) → a ≤ s → sectors_from a (s + 1 - a) ≡ sectors_from a (s - a) ++ s ∷ []
-one_sector a s h =
-    let more : s + 1 - a ≡ s - a + 1 = omega arith in
-    let last : a + (s - a) ≡ s = omega arith in
-    ap (sectors_from a) more ∙ one_each (λ i. a + i) (s - a) ∙ ap (λ (t : ℕ). sectors_from a (s - a) ++ t ∷ []) last
 
 pub reads_none : (m : Meaning) → OnlyReads m m
 reads_none m = record {

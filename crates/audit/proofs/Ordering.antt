@@ -20,7 +20,7 @@ use Rattle.image.specs.declared.refusal.StageError.{StageError}
 use Rattle.image.specs.declared.refusal.StageError.TheVariants.{Off as StageOff, NoHeap as StageNoHeap}
 use Rattle.image.specs.Headers.{IsHeaderOf, log_sector}
 use Rattle.image.specs.Images.{Judged}
-use Rattle.image.specs.Looking.{Looked, LookedTillOff, Fails}
+use Rattle.image.specs.Looking.{LookedTillOff, Fails}
 use Rattle.image.specs.Phases.{AllThenFirstOf, OnceOrAgain, twice}
 use Rattle.image.specs.Stages.{IsReadOf, judged_log, body_sector, nth_body, page_count, IsPageRead, IsJudgedPage}
 use Rattle.audit.specs.declared.error.CheckError.{CheckError}

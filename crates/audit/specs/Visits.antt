@@ -28,7 +28,8 @@ Refer ws k = (j : ℕ) × (j < length ws) × (slice_index_or ws j (Number 0) ≡
 -- from the marks ms and the queue q on, handles are marked and queued one after another; each was not marked, and P is so of it
 pub data Marks (P : ℕ → Type 0) (ms q : List ℕ) : List ℕ → List ℕ → Type 0 where
   none : Marks P ms q ms q
-  more : (ms' q' : List ℕ) (k : ℕ) → Marks P ms q ms' q' → P k → k < length ms' → slice_index ms' k ≡ 0
+  more : (ms' q' : List ℕ) (k : ℕ) → Marks P ms q ms' q' → P k → k < length ms'
+      → slice_index ms' k ≡ 0
       → Marks P ms q (slice_set ms' k 1) (q' ++ k ∷ [])
 
 -- and in the end, all of which P is so are marked

@@ -30,7 +30,8 @@ pub fn check<D: Device>(
     numbers: &mut [u16],
 ) -> Result<Counts, CheckError>
     ensures calls { ChecksBy ⟦<D as Device>⟧ device.old device.new result }
-    ensures stays { OnlyReads (means ⟦<D as Device>⟧ device.old) (means ⟦<D as Device>⟧ device.new) }
+    ensures stays { OnlyReads
+        (means ⟦<D as Device>⟧ device.old) (means ⟦<D as Device>⟧ device.new) }
     ensures checked { Checks (means ⟦<D as Device>⟧ device.old) (means ⟦<D as Device>⟧ device.new)
         marks.old marks.new numbers.old numbers.new result }
 {

@@ -21,7 +21,8 @@ pub(crate) fn count_reachable<D: Device>(
     marks: &mut [u8],
     numbers: &mut [u16],
 ) -> Result<u32, StageError>
-    requires judged { (H : Heap) × IsJudgedOf (D.count device.old) (D.current device.old) H judged.now }
+    requires judged { (H : Heap)
+        × IsJudgedOf (D.count device.old) (D.current device.old) H judged.now }
     requires clear { marks.old ≡ replicate (16 * D.count device.old) 0 }
     requires room { length marks.old ≤ length numbers.old }
     ensures { FindsBy ⟦<D as Device>⟧ device.old device.new (All (IsBody (judged_log judged.now)))
@@ -46,7 +47,8 @@ pub(crate) fn count_reachable<D: Device>(
 // The words of a slot.
 fn words_of(page: &Page, slot: usize) -> &[Word]
     requires { slot < slots_of page.now.class }
-    ensures { result.now ≡ take (size_of page.now.class) (drop (slot * size_of page.now.class) page.now.words) }
+    ensures { result.now
+        ≡ take (size_of page.now.class) (drop (slot * size_of page.now.class) page.now.words) }
 {
     let size = page.class.size();
     let first = slot * size;
@@ -58,7 +60,8 @@ fn visit_all(marks: &mut [u8], queue: &mut Queue<'_, u16>, words: &[Word])
     requires few { length marks.old ≤ 2 ^ 16 }
     requires inside { (k : ℕ) → Refer words.now k → k < length marks.old }
     requires room { HasRoom marks.old queue.old }
-    ensures visits { Visits (Refer words.now) marks.old (waiting queue.old) marks.new (waiting queue.new) }
+    ensures visits { Visits (Refer words.now)
+        marks.old (waiting queue.old) marks.new (waiting queue.new) }
     ensures places { places queue.new ≡ places queue.old }
 {
     for word in words {
@@ -71,7 +74,8 @@ fn visit(marks: &mut [u8], queue: &mut Queue<'_, u16>, word: Word)
     requires few { length marks.old ≤ 2 ^ 16 }
     requires inside { (k : ℕ) → word ≡ Reference (handle k) → k < length marks.old }
     requires room { HasRoom marks.old queue.old }
-    ensures visits { Visits (λ k. word ≡ Reference (handle k)) marks.old (waiting queue.old) marks.new (waiting queue.new) }
+    ensures visits { Visits (λ k. word ≡ Reference (handle k))
+        marks.old (waiting queue.old) marks.new (waiting queue.new) }
     ensures places { places queue.new ≡ places queue.old }
 {
     let Word::Reference(handle) = word else {

@@ -7,7 +7,8 @@ pub(crate) struct Zeroed<'a, T: Copy + Default>(pub(crate) &'a mut [T]);
 impl<T: Copy + Default> Drop for Zeroed<'_, T> {
     fn drop(self)
         ensures long { length self.exit.0.now ≡ length self.entry.0.now }
-        ensures zero { (k : ℕ) (d : T) → k < length self.entry.0.now → T.is_default (slice_index_or self.exit.0.now k d) }
+        ensures zero { (k : ℕ) (d : T) → k < length self.entry.0.now
+            → T.is_default (slice_index_or self.exit.0.now k d) }
     {
         let Zeroed(places) = self;
         for place in places.iter_mut() {

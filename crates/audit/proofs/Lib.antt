@@ -3,3 +3,4 @@ pub mod Objects
 pub mod Turns
 pub mod Walks
 pub mod Ordering
+pub mod Below

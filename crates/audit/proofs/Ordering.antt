@@ -1,6 +1,6 @@
 -- The sectors that a check reads, phase by phase.
 -- Assumes nothing.
-use Rattle.std.proofs.Common.{◌≡◌, ℕ, ◌+◌, ◌*◌, ◌≤◌, replicate, drop, false, List, [], ◌∷◌, ◌++◌, length, Some, Option, Ok, Err, Result, sym, refl, ap, ◌∙◌, subst, append-nil, inr, arith}
+use Rattle.std.proofs.Common.{◌≡◌, ℕ, ◌+◌, ◌*◌, ◌≤◌, replicate, drop, false, List, [], ◌∷◌, ◌++◌, length, Some, Option, Ok, Err, Result, sym, refl, ap, ◌∙◌, subst, append-nil, arith}
 use Rattle.std.specs.List.{All}
 use Rattle.std.proofs.lemmas.List.{length_push}
 use Rattle.std.proofs.lemmas.List.Elements.{All-push}
@@ -8,7 +8,7 @@ use Rattle.std.specs.Result.{IsErrAnd}
 use Rattle.device.specs.declared.Device.{Ghosts}
 use Rattle.device.specs.Sector.{Image}
 use Rattle.device.specs.Means.{means}
-use Rattle.device.specs.Calling.{each, OnlyReads}
+use Rattle.device.specs.Calling.{OnlyReads}
 use Rattle.device.proofs.Calling.{read_all, read_cut, cut_off}
 use Rattle.layout.specs.declared.header.Header.{Header}
 use Rattle.layout.specs.declared.page.Page.{Page}
@@ -16,20 +16,19 @@ use Rattle.layout.specs.Geometries.{IsPage}
 use Rattle.image.specs.declared.counts.Counts.{Counts}
 use Rattle.image.specs.declared.log.LogRead.{LogRead}
 use Rattle.image.specs.declared.judged.PagesJudged.{PagesJudged}
+use Rattle.image.specs.declared.refusal.ImageRefusal.{ImageRefusal}
+use Rattle.image.specs.declared.refusal.ImageRefusal.TheVariants.{NoHeader, LaterEpoch, Torn, Unlawful, Dangling}
 use Rattle.image.specs.declared.refusal.StageError.{StageError}
 use Rattle.image.specs.declared.refusal.StageError.TheVariants.{Off as StageOff, NoHeap as StageNoHeap}
 use Rattle.image.specs.Headers.{IsHeaderOf, log_sector}
 use Rattle.image.specs.Images.{Judged}
 use Rattle.image.specs.Looking.{LookedTillOff, Fails}
-use Rattle.image.specs.Phases.{AllThenFirstOf, OnceOrAgain, twice}
-use Rattle.image.specs.Stages.{IsReadOf, judged_log, body_sector, nth_body, page_count, IsPageRead, IsJudgedPage}
+use Rattle.image.specs.Phases.{twice}
+use Rattle.image.specs.Stages.{judged_log, body_sector, nth_body, page_count, JudgeEnds, IsPageRead, IsJudgedPage}
 use Rattle.audit.specs.declared.error.CheckError.{CheckError}
-use Rattle.audit.specs.Errors.{of_stage}
+use Rattle.audit.specs.Errors.{as_check_error}
 use Rattle.audit.specs.Checks.{wanted, ZeroedFirst, Checks}
-use Rattle.audit.specs.Order.{IsBody, behind_log, JudgeReads, log, pages, WalkReads, CheckReads, ChecksBy}
-
-pub all_twice : (f : ℕ → ℕ) (n : ℕ) (ts : List ℕ) → ts ≡ twice f n → AllThenFirstOf f n ts
-all_twice f n ts e = (each f n, (n, omega arith, refl), e)
+use Rattle.audit.specs.Order.{IsBody, behind_log, LogReads, RefusalReads, WalkReads, CheckReads, log, ChecksBy}
 
 -- the log behind the headers, and the pages behind that
 pub log_behind : (ss us : List ℕ) → ss ≡ 0 ∷ 1 ∷ [] → ss ++ us ≡ behind_log us []
@@ -39,32 +38,35 @@ pub pages_behind : (ss us vs : List ℕ) → ss ≡ 0 ∷ 1 ∷ [] → (ss ++ us
 pages_behind ss us vs e = ap (λ (ts : List ℕ). (ts ++ us) ++ vs) e
 
 module _ (n : ℕ) (σ : Image) where
-  pub log_twice : (h : Header) (ss ts : List ℕ) → IsHeaderOf n σ h → ss ≡ 0 ∷ 1 ∷ [] → ts ≡ twice log_sector h.geometry.log → JudgeReads n σ (ss ++ ts)
-  log_twice h ss ts a e f = log h ts a (inr (all_twice log_sector h.geometry.log ts f)) (log_behind ss ts e)
-
-  pub pages_read : (x : LogRead) (ss us vs : List ℕ) → IsReadOf n σ x → ss ≡ 0 ∷ 1 ∷ [] → AllThenFirstOf log_sector x.header.geometry.log us
-      → OnceOrAgain (nth_body x) (page_count x) vs → JudgeReads n σ ((ss ++ us) ++ vs)
-  pages_read x ss us vs r e a o = pages x us vs r a o (pages_behind ss us vs e)
+  pub log_cut : (h : Header) (ss ts : List ℕ) → IsHeaderOf n σ h → ss ≡ 0 ∷ 1 ∷ [] → ts ≡ twice log_sector h.geometry.log → CheckReads n σ (ss ++ ts)
+  log_cut h ss ts a e f = log h a (log_behind ss ts e ∙ ap (λ (us : List ℕ). behind_log us []) f)
 
   -- judging came to its end, and no page body was read since
-  pub judged_whole : (x : LogRead) (ss us vs : List ℕ) → IsReadOf n σ x → ss ≡ 0 ∷ 1 ∷ [] → AllThenFirstOf log_sector x.header.geometry.log us
+  pub judged_whole : (x : LogRead) (ss us vs : List ℕ) → LogReads n σ x us → ss ≡ 0 ∷ 1 ∷ []
       → vs ≡ twice (nth_body x) (page_count x) → WalkReads n σ x [] ((ss ++ us) ++ vs)
-  judged_whole x ss us vs r e a f = record {
-    read = r;
+  judged_whole x ss us vs r e f = record {
     log = us;
-    twice_read = a;
+    read = r;
     bodies = λ k d l. absurd (omega arith);
     order = pages_behind ss us vs e ∙ ap (λ (ts : List ℕ). behind_log us ts) f ∙ sym (append-nil _);
   }
+
+  -- a page or a reference is at fault
+  pub pages_refused : (x : LogRead) (ss us vs : List ℕ) (q : ImageRefusal) → LogReads n σ x us → ss ≡ 0 ∷ 1 ∷ [] → JudgeEnds x vs q
+      → RefusalReads n σ q ((ss ++ us) ++ vs)
+  pages_refused x ss us vs NoHeader r e j = absurd j
+  pages_refused x ss us vs (LaterEpoch s) r e j = absurd j
+  pages_refused x ss us vs (Torn s) r e j = (x, (us, (vs, r, j, pages_behind ss us vs e)))
+  pages_refused x ss us vs (Unlawful s) r e j = (x, (us, (vs, r, j, pages_behind ss us vs e)))
+  pages_refused x ss us vs (Dangling s k) r e j = (x, (us, (vs, r, j, pages_behind ss us vs e)))
 
   -- and then the walk
   pub walk_behind : (x : LogRead) (ss ws : List ℕ) → WalkReads n σ x [] ss → All (IsBody x) ws → WalkReads n σ x ws (ss ++ ws)
   walk_behind x ss ws w a =
       let e : ss ≡ behind_log w.log (twice (nth_body x) (page_count x)) = w.order ∙ append-nil _ in
       record {
-        read = w.read;
         log = w.log;
-        twice_read = w.twice_read;
+        read = w.read;
         bodies = a;
         order = ap (λ (ts : List ℕ). ts ++ ws) e;
       }
@@ -106,9 +108,9 @@ zeroed n k xs zs e l z =
 -- what a check makes of a stage's failure, and what it leaves of the caller's memory
 module _ {D : Type 0} (g : Ghosts D) (d f : D) where
   abbrev Failed : StageError → Type 0
-  Failed q = Fails g d f (CheckReads (g.count d) (g.current d)) (λ ss n σ q. JudgeReads n σ ss × Judged n σ q) q
+  Failed q = Fails g d f (CheckReads (g.count d) (g.current d)) (λ ss n σ q. RefusalReads n σ q ss × Judged n σ q) q
 
-  pub failed_calls : (r : Result Counts CheckError) (q : StageError) → Failed q → IsErrAnd r (λ e. e ≡ of_stage q) → ChecksBy g d f r
+  pub failed_calls : (r : Result Counts CheckError) (q : StageError) → Failed q → IsErrAnd r (λ e. e ≡ as_check_error q) → ChecksBy g d f r
   failed_calls (Ok c) q x h = absurd h
   failed_calls (Err e) StageOff x h = subst (λ (e : CheckError). ChecksBy g d f (Err e)) (sym h) x
   failed_calls (Err e) (StageNoHeap q) (on, (ss, a, (o, j))) h = subst (λ (e : CheckError). ChecksBy g d f (Err e)) (sym h) (ss, a, o)
@@ -118,7 +120,7 @@ module _ {D : Type 0} (g : Ghosts D) (d f : D) where
   failed_stays (StageNoHeap q) (on, (ss, a, x)) = read_all g ss d f a
 
   pub failed_checks : (ms ms' ns ns' : List ℕ) (r : Result Counts CheckError) (q : StageError) → Failed q
-      → ZeroedFirst (wanted (g.count d)) ms ms' → ZeroedFirst (wanted (g.count d)) ns ns' → IsErrAnd r (λ e. e ≡ of_stage q)
+      → ZeroedFirst (wanted (g.count d)) ms ms' → ZeroedFirst (wanted (g.count d)) ns ns' → IsErrAnd r (λ e. e ≡ as_check_error q)
       → Checks (means g d) (means g f) ms ms' ns ns' r
   failed_checks ms ms' ns ns' (Ok c) q x y z h = absurd h
   failed_checks ms ms' ns ns' (Err e) StageOff x y z h =

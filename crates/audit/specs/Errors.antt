@@ -7,9 +7,9 @@ use Rattle.model.specs.declared.refusal.Refusal.{Refusal}
 use Rattle.model.specs.declared.refusal.Refusal.TheVariants.{Off as CallOff, ShortMemory as CallShortMemory}
 use Rattle.model.specs.Refusals.{of_image}
 
-abbrev pub of_stage : StageError → CheckError
-of_stage StageOff = Off
-of_stage (StageNoHeap q) = NoHeap q
+abbrev pub as_check_error : StageError → CheckError
+as_check_error StageOff = Off
+as_check_error (StageNoHeap q) = NoHeap q
 
 abbrev pub of_check : CheckError → Refusal
 of_check Off = CallOff

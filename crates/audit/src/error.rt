@@ -1,6 +1,6 @@
 //! Why a check tells no numbers.
 ghost use Rattle.std.specs.Prelude.{◌≡◌};
-ghost use Rattle.audit.specs.Errors.{of_stage, of_check};
+ghost use Rattle.audit.specs.Errors.{as_check_error, of_check};
 
 use image::{ImageRefusal, StageError};
 use model::Refusal;
@@ -18,7 +18,7 @@ pub enum CheckError {
 }
 
 impl From<StageError> for CheckError {
-    ghost from_gives = { λ stage error. error ≡ of_stage stage };
+    ghost from_gives = { λ stage error. error ≡ as_check_error stage };
 
     fn from(error: StageError) -> CheckError {
         match error {

@@ -5,13 +5,14 @@ ghost use Rattle.std.specs.Prelude.{◌≡◌, ◌≤◌, length, replicate};
 ghost use Rattle.device.specs.Means.{means};
 ghost use Rattle.device.specs.Calling.{OnlyReads};
 ghost use Rattle.audit.specs.Checks.{wanted, Checks};
-ghost use Rattle.audit.specs.Order.{ChecksBy, CheckReads, CountReads, JudgeReads, JudgedWhole};
+ghost use Rattle.audit.specs.Order.{ChecksBy, CheckReads, CountReads, RefusalReads, JudgedWhole};
 ghost use Rattle.image.specs.Heaps.{Heap, Counted};
 ghost use Rattle.image.specs.Images.{Holds, Judged};
 ghost use Rattle.image.specs.Looking.{FindsBy};
 ghost use Rattle.image.specs.Stages.{IsJudgedOf};
 
 mod error;
+mod reads;
 mod walk;
 mod zeroed;
 
@@ -19,6 +20,7 @@ use device::Device;
 pub use error::CheckError;
 use image::{Counts, HeadersRead, LogRead, PagesJudged, StageError};
 use layout::HANDLES;
+pub use reads::of_all_reads;
 use walk::count_reachable;
 use zeroed::Zeroed;
 
@@ -55,7 +57,7 @@ fn count_with<D: Device>(
     ensures found { FindsBy ⟦<D as Device>⟧ device.old device.new
         (CheckReads (D.count device.old) (D.current device.old))
         (λ ss n σ c. CountReads n σ c ss × ((H : Heap) × Holds n σ H × Counted H c))
-        (λ ss n σ q. JudgeReads n σ ss × Judged n σ q) result }
+        (λ ss n σ q. RefusalReads n σ q ss × Judged n σ q) result }
 {
     let marks = Zeroed(marks);
     let numbers = Zeroed(numbers);
@@ -74,7 +76,7 @@ fn count<D: Device>(
     ensures { FindsBy ⟦<D as Device>⟧ device.old device.new
         (CheckReads (D.count device.old) (D.current device.old))
         (λ ss n σ c. CountReads n σ c ss × ((H : Heap) × Holds n σ H × Counted H c))
-        (λ ss n σ q. JudgeReads n σ ss × Judged n σ q) result }
+        (λ ss n σ q. RefusalReads n σ q ss × Judged n σ q) result }
 {
     let judged = judge(device)?;
     let reachable = count_reachable(device, &judged, marks, numbers)?;
@@ -89,9 +91,9 @@ fn count<D: Device>(
 // Judges the image that the device shows.
 fn judge<D: Device>(device: &mut D) -> Result<PagesJudged, StageError>
     ensures { FindsBy ⟦<D as Device>⟧ device.old device.new
-        (JudgeReads (D.count device.old) (D.current device.old))
+        (CheckReads (D.count device.old) (D.current device.old))
         (λ ss n σ x. JudgedWhole n σ x ss × ((H : Heap) × IsJudgedOf n σ H x))
-        (λ ss n σ q. JudgeReads n σ ss × Judged n σ q) result }
+        (λ ss n σ q. RefusalReads n σ q ss × Judged n σ q) result }
 {
     let headers = HeadersRead::read(device)?;
     let log = LogRead::read(device, headers)?;

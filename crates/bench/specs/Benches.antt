@@ -33,8 +33,8 @@ abbrev pub slots_at : Bench → ℕ
 slots_at d = places_at d.pending
 
 -- what a bench means: its rows, with the writes that wait in front of them
-abbrev pub means : Bench → Meaning
-means d = with_waiting (queued d) (rows_mean (memory d))
+abbrev pub benched : Bench → Meaning
+benched d = with_waiting (queued d) (rows_mean (memory d))
 
 -- it stands on the same pieces of the caller's memory
 pub record SameMemory (d d' : Bench) : Type 0 where

@@ -88,7 +88,7 @@ impl<'a> Bench<'a> {
 
 // What a call leaves where it was, as `same` and `pending` say, is about before and after: no type can tell it.
 impl Bench<'_> {
-    ghost use Rattle.bench.specs.Benches.{SameMemory, LetsWait, AfterFlush, means, memory, memory_at, queued, slots};
+    ghost use Rattle.bench.specs.Benches.{SameMemory, LetsWait, AfterFlush, benched, memory, memory_at, queued, slots};
 
     // Makes a write durable. A sector that is not there is passed over.
     fn put(&mut self, write: PendingWrite)
@@ -115,8 +115,8 @@ impl Bench<'_> {
     // Makes all writes that wait durable, oldest first.
     fn put_all(&mut self)
         ensures done { AfterFlush self.old self.new }
-        ensures kept { Keeps (means self.old) (means self.new) }
-        ensures rules { FlushCall (Ok tt) (means self.old) (means self.new) }
+        ensures kept { Keeps (benched self.old) (benched self.new) }
+        ensures rules { FlushCall (Ok tt) (benched self.old) (benched self.new) }
     {
         while let Some(oldest) = self.take_oldest() {
             self.put(oldest);
@@ -126,7 +126,7 @@ impl Bench<'_> {
     // Makes room for one more to wait: with eight waiting, the oldest becomes durable.
     fn make_room(&mut self)
         ensures memory { memory self.new ≡ room_made (queued self.old) (memory self.old) }
-        ensures kept { Keeps (means self.old) (means self.new) }
+        ensures kept { Keeps (benched self.old) (benched self.new) }
         ensures pending { queued self.new ≡ room_in (queued self.old) }
         ensures slots { slots self.new ≡ slots self.old }
         ensures same { SameMemory self.old self.new }
@@ -142,7 +142,7 @@ impl Bench<'_> {
     // Lets a write wait, behind all others.
     fn let_wait(&mut self, write: PendingWrite)
         ensures rules { IsPayload write.bytes → write.sector < row_count 61 (memory self.old)
-            → WriteCall write.sector write.bytes (Ok tt) (means self.old) (means self.new) }
+            → WriteCall write.sector write.bytes (Ok tt) (benched self.old) (benched self.new) }
         ensures waits { LetsWait write self.old self.new }
     {
         self.make_room();
@@ -179,7 +179,7 @@ fn last_to(writes: &[PendingWrite], sector: u32) -> Option<PendingWrite>
 impl<'a> Device for Bench<'a> {
     ghost use Rattle.bench.specs.Benches.{AfterWrite, AfterFlush, memory, queued};
 
-    // Together these are `means`, of which the clauses above speak.
+    // Together these are `benched`, of which the clauses above speak.
     ghost count = { λ d. row_count 61 (memory d) };
 
     ghost on = { λ _. true };

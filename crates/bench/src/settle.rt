@@ -6,7 +6,7 @@ ghost use Rattle.device.specs.Cuts.{IsFoundOf};
 ghost use Rattle.device.specs.Memory.{row_count, row_in, with_row};
 ghost use Rattle.device.specs.Waiting.{waiting_at};
 ghost use Rattle.bench.specs.Rows.{durable, torn_row};
-ghost use Rattle.bench.specs.Benches.{SameMemory, means, memory, memory_at, queued, slots};
+ghost use Rattle.bench.specs.Benches.{SameMemory, benched, memory, memory_at, queued, slots};
 ghost use Rattle.bench.specs.Settling.{Settles, SettlesAt, SettlesToEach, chosen};
 
 use crate::bench::Bench;
@@ -26,15 +26,15 @@ impl Bench<'_> {
     /// Stands for a power cut: a number for each sector chooses what is found there, and then nothing waits. 0 keeps the durable
     /// content, k takes the k-th oldest write that waits for the sector, 9 makes it torn if one waits; others count as 0.
     pub fn settle(&mut self, numbers: &[u8])
-        ensures cut { IsFoundOf (means self.old) (means self.new) }
+        ensures cut { IsFoundOf (benched self.old) (benched self.new) }
         ensures settles { Settles numbers.now (queued self.old)
             (memory self.old) (memory self.new) }
-        ensures current { (s : ℕ) → (means self.new).current s
+        ensures current { (s : ℕ) → (benched self.new).current s
             ≡ chosen (slice_index numbers.now s)
             (waiting_at (row_count 61 (memory self.old)) (queued self.old) s)
             (durable (memory self.old) s) }
-        ensures only { Settled (means self.new).current (means self.new).possible }
-        ensures found { Found (means self.old).possible (means self.new).current }
+        ensures only { Settled (benched self.new).current (benched self.new).possible }
+        ensures found { Found (benched self.old).possible (benched self.new).current }
         ensures reaches { SettlesToEach (queued self.old) (memory self.old) }
         ensures pending { queued self.new ≡ [] }
         ensures slots { slots self.new ≡ slots self.old }

@@ -34,7 +34,10 @@ pub const BLANK: PendingWrite = PendingWrite {
 impl Default for PendingWrite {
     ghost is_default = { λ write. (write.sector ≡ 0) × (write.bytes ≡ replicate 60 0) };
 
-    fn default() -> PendingWrite {
+    fn default() -> PendingWrite
+        ensures blank { result ≡ BLANK }
+        ensures zeros { (result.sector ≡ 0) × (result.bytes ≡ replicate 60 0) }
+    {
         BLANK
     }
 }

@@ -5,7 +5,7 @@ use Rattle.std.specs.Prelude.{slice_index_or, IsTrue, ◌↔◌, IfSome}
 use Rattle.std.proofs.lemmas.Bool.{both_ways, eq-eqb, ne_eqb}
 use Rattle.device.specs.Sector.{Content, payload, torn, Image, IsPayload}
 use Rattle.layout.specs.declared.page.Page.{Page}
-use Rattle.layout.specs.Geometries.{root_of}
+use Rattle.layout.specs.Geometries.{root_of, IsPage}
 use Rattle.layout.specs.Pages.{Lawful}
 use Rattle.layout.specs.Bodies.{body_bytes}
 use Rattle.layout.specs.Homes.{home_bytes}
@@ -16,7 +16,7 @@ use Rattle.image.specs.declared.refusal.ImageRefusal.TheVariants.{Torn, Unlawful
 use Rattle.image.specs.declared.log.LogRead.{LogRead}
 use Rattle.image.specs.Logs.{Change, span, last_record}
 use Rattle.image.specs.Images.{HasBody, IsTornHome}
-use Rattle.image.specs.Stages.{committed_homes, home_at, homes_of, IsRecordFor, is_home, last_place, sector_for, IsBodyRead, IsPageFault, IsReadOf, IsFaultOf, NoHome, FindsBody, FindsNoBody, FindsPage, FindsNoPage}
+use Rattle.image.specs.Stages.{committed_homes, home_at, homes_of, IsRecordFor, is_home, place_behind, last_place, sector_for, body_sector, IsBodyRead, IsPageFault, IsReadOf, IsFaultOf, NoHome, FindsBody, FindsNoBody, FindsPage, FindsNoPage}
 use Rattle.image.proofs.Readings.{payload_one, span_inside}
 use Rattle.image.proofs.Records.{no_record_of, IsRecordAt, record_at}
 use Rattle.image.proofs.Single.{body_one}
@@ -49,6 +49,19 @@ record_is x s (Some i) h = last_some s (committed_homes x) i h.0 h.1 h.2
 
 no_place : {i : ℕ} → ◌≡◌ {A = Option ℕ} (Some i) None → ⊥
 no_place e = cc
+
+one_place : {i k : ℕ} → Some i ≡ Some k → i ≡ k
+one_place e = cc
+
+-- that place is one of the list's
+behind_inside : (o : Option ℕ) (b : Bool) (m i : ℕ) → ((k : ℕ) → o ≡ Some k → k < m) → place_behind o b ≡ Some i → i < suc m
+behind_inside (Some k) b m i h e = let l = h k refl in let q : suc k ≡ i = one_place e in omega arith
+behind_inside None true m i h e = let q : 0 ≡ i = one_place e in omega arith
+behind_inside None false m i h e = absurd (no_place (sym e))
+
+place_inside : (s : ℕ) (os : List (Option ℕ)) (i : ℕ) → last_place s os ≡ Some i → i < length os
+place_inside s [] i e = absurd (no_place (sym e))
+place_inside s (o ∷ os) i e = behind_inside (last_place s os) (is_home s o) (length os) i (place_inside s os) e
 
 no_some : {p : Page} → ◌≡◌ {A = Option Page} None (Some p) → ⊥
 no_some e = cc
@@ -88,6 +101,17 @@ module _ (n : ℕ) (σ : Image) (x : LogRead) (r : IsReadOf n σ x) (s : ℕ) wh
   no_home q a (inl (e, f)) = (λ body h. let h' = rw (uncovered a) at h in not_torn h' f, inl (e, (uncovered a, f)))
   no_home q a (inr (e, (b, f, g))) =
       (λ body h. let h' = rw (uncovered a) at h in g body (payload_one _ _ (sym h' ∙ f)), inr (e, λ t. not_torn f t.1))
+
+-- the sector in which a body stands is one of the card's
+pub body_inside : (n : ℕ) (σ : Image) (x : LogRead) → IsReadOf n σ x → (s : ℕ) → IsPage x.header.geometry s → body_sector x s < n
+body_inside n σ x r s i = inside (last_place s (committed_homes x)) refl
+  where
+    inside : (o : Option ℕ) → last_place s (committed_homes x) ≡ o → sector_for s o < n
+    inside None e = let z : x.header.geometry.sectors ≡ n = r.reads.header.valid.0.0 in omega arith
+    inside (Some k) e =
+        let z : x.header.geometry.sectors ≡ n = r.reads.header.valid.0.0 in
+        let g = x.header.geometry.room in
+        omega (arith, place_inside s (committed_homes x) k e, long n σ x r s, span_inside σ x.header r.log r.reads.log.run)
 
 not_home : (a : Bool) (s : ℕ) (b : List ℕ) → IsTrue a ↔ (home_bytes s (drop 12 b) ≡ b) → a ≡ false → (body : List ℕ) → home_bytes s body ≡ b → ⊥
 not_home a s b t f body e =

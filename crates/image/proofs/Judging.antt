@@ -5,7 +5,6 @@ use Rattle.std.specs.Prelude.{◌↔◌, IfSome}
 use Rattle.std.proofs.lemmas.List.{get_or_append_left, get_or_push, length_push}
 use Rattle.std.proofs.lemmas.Bool.{cases_lt}
 use Rattle.device.specs.Sector.{Image}
-use Rattle.layout.specs.declared.geometry.Geometry.{Geometry}
 use Rattle.layout.specs.declared.header.Header.{Header}
 use Rattle.layout.specs.declared.page.Page.{Page}
 use Rattle.layout.specs.Geometries.{root_of, IsPage}
@@ -17,11 +16,11 @@ use Rattle.image.specs.declared.log.LogRead.{LogRead}
 use Rattle.image.specs.declared.tally.Tally.{Tally}
 use Rattle.image.specs.declared.judged.PagesJudged.{PagesJudged}
 use Rattle.image.specs.Logs.{Change}
-use Rattle.image.specs.Phases.{FirstOf}
 use Rattle.image.specs.Heaps.{Heap, HasPage, page_of, free_page, DanglesIn, Dangles, NoneDangles, FirstDangling}
 use Rattle.image.specs.Images.{HasBody, IsPageAt, Shows, FirstFault, Judged}
-use Rattle.image.specs.Stages.{IsReadOf, IsFaultOf, IsPageFault, IsOfPages, EndsAtFault, EndsAtDangling, log_division, nth_body, page_count, IsBodyRead, IsPageRead, FindsBody, FindsNoBody, FindsPage, FindsNoPage, FindsShown, FindsNoneShown, IsJudgedOf, division_of, IsJudgedPage, IsAnother}
+use Rattle.image.specs.Stages.{IsReadOf, IsFaultOf, IsPageFault, EndsAtFault, EndsAtDangling, JudgeEnds, all_bodies, IsBodyRead, IsPageRead, FindsBody, FindsNoBody, FindsPage, FindsNoPage, FindsShown, FindsNoneShown, IsJudgedOf, division_of, IsJudgedPage, IsAnother}
 use Rattle.image.specs.Tallies.{page_at, IsTallyOf, IsTallyOfHeap}
+use Rattle.image.proofs.Lookings.{both_lists}
 use Rattle.image.proofs.Single.{header_one, log_one, body_one, page_inside, inside_page}
 
 module _ (n : ℕ) (σ : Image) (x : LogRead) (r : IsReadOf n σ x) where
@@ -172,18 +171,18 @@ module _ (n : ℕ) (σ : Image) (x : LogRead) (s : ℕ) where
   page_read b body None r e y = y
   page_read b body (Some p) r e y = ((b, r, y.0 ∙ e), y.1)
 
--- which refusals pages can get, and how far they are read then
-of_pages : (g : Geometry) (s : ℕ) (q : ImageRefusal) → IsPage g s → IsPageFault s q → IsOfPages g q
-of_pages g s q i (inl e) = subst (λ (p : ImageRefusal). IsOfPages g p) (sym e) i
-of_pages g s q i (inr e) = subst (λ (p : ImageRefusal). IsOfPages g p) (sym e) i
+-- a fault in the first pass over the pages, or in the second, and a reference without object
+module _ (x : LogRead) (ss : List ℕ) where
+  pub fault_first : (q : ImageRefusal) → EndsAtFault x ss q → JudgeEnds x ss q
+  fault_first q (s, i, inl e, r) = subst (λ (p : ImageRefusal). JudgeEnds x ss p) (sym e) (i, inl r)
+  fault_first q (s, i, inr e, r) = subst (λ (p : ImageRefusal). JudgeEnds x ss p) (sym e) (i, inl r)
 
-pub fault_of_pages : (x : LogRead) (ss : List ℕ) (q : ImageRefusal) → EndsAtFault x ss q
-    → FirstOf (nth_body x) (page_count x) ss × IsOfPages (log_division x) q
-fault_of_pages x ss q (s, i, f, e) = ((s + 1 - root_of x.header.geometry, omega arith, e), of_pages (log_division x) s q i f)
+  pub fault_again : (ts : List ℕ) (q : ImageRefusal) → ss ≡ all_bodies x → EndsAtFault x ts q → JudgeEnds x (ss ++ ts) q
+  fault_again ts q f (s, i, inl e, r) = subst (λ (p : ImageRefusal). JudgeEnds x (ss ++ ts) p) (sym e) (i, inr (both_lists f r))
+  fault_again ts q f (s, i, inr e, r) = subst (λ (p : ImageRefusal). JudgeEnds x (ss ++ ts) p) (sym e) (i, inr (both_lists f r))
 
-pub dangling_of_pages : (x : LogRead) (ss : List ℕ) (s j : ℕ) → EndsAtDangling x ss (Some (s, j))
-    → FirstOf (nth_body x) (page_count x) ss × IsOfPages (log_division x) (Dangling s j)
-dangling_of_pages x ss s j (i, l, e) = ((s + 1 - root_of x.header.geometry, omega arith, e), (i, l))
+  pub dangling_again : (ts : List ℕ) (s j : ℕ) → ss ≡ all_bodies x → EndsAtDangling x ts (Some (s, j)) → JudgeEnds x (ss ++ ts) (Dangling s j)
+  dangling_again ts s j f (i, l, r) = (i, l, both_lists f r)
 
 -- of an image whose pages were judged
 module _ (n : ℕ) (σ : Image) (y : PagesJudged) (s : ℕ) (H : Heap) (j : IsJudgedOf n σ H y) where

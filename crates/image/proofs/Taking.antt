@@ -1,19 +1,20 @@
 -- The log as it is taken up, position by position.
 -- Assumes nothing.
-use Rattle.std.proofs.Common.{◌≡◌, ◌≢◌, ℕ, suc, ◌+◌, ◌-◌, ◌^◌, ◌<◌, ◌≤◌, List, [], ◌∷◌, ◌++◌, length, take, set, Some, None, Option, sym, refl, ap, ◌∙◌, subst, append_assoc, append-nil, take-take, inl, inr, arith}
+use Rattle.std.proofs.Common.{◌≡◌, ◌≢◌, ℕ, suc, ◌+◌, ◌-◌, ◌^◌, ◌<◌, ◌≤◌, min, List, [], ◌∷◌, ◌++◌, length, take, set, Some, None, Option, sym, refl, ap, ◌∙◌, subst, append_assoc, append-nil, take-take, inl, inr, arith}
 use Rattle.std.proofs.lemmas.List.{take_more_set, take_at, length-append, length-map, map-append}
 use Rattle.std.proofs.Math.ListN.{length-set}
 use Rattle.device.specs.Sector.{payload, Image}
+use Rattle.device.specs.Calling.{each}
 use Rattle.layout.specs.declared.header.Header.{Header}
 use Rattle.layout.specs.Records.{commit_record_bytes, most_records}
 use Rattle.image.specs.declared.log.LogRead.{LogRead}
 use Rattle.image.specs.declared.log.TheConstants.{LONGEST_LOG}
 use Rattle.image.specs.declared.entry.Entry.TheVariants.{Page, Commit}
-use Rattle.image.specs.Headers.{IsHeaderOf, NoneLater}
+use Rattle.image.specs.Headers.{IsHeaderOf, InLog, NoneLater, ShowsLater, log_sector}
 use Rattle.image.specs.Logs.{Change, span, next_number}
-use Rattle.image.specs.Reading.{Reading, Ends, wrong_count, wrong_number, whole_log, ReadsTo}
+use Rattle.image.specs.Reading.{Reading, Ends, wrong_count, wrong_number, whole_log, ReadsInOrder}
 use Rattle.image.specs.Entries.{IsEntryAt}
-use Rattle.image.specs.Stages.{homes_in, homes_of, HasRead, HasReadAll, IsReadOf}
+use Rattle.image.specs.Stages.{homes_in, homes_of, HasRead, HasReadAll, IsReadFrom}
 use Rattle.image.proofs.Readings.{read_so_far, read_log}
 
 -- each transaction takes one position more than it has page records
@@ -75,37 +76,52 @@ module _ (σ : Image) (h : Header) (p : ℕ) (x : LogRead) (r : HasRead σ h p x
       sym (take-take x.committed p x.homes (omega (arith, s.at, r.committed))) ∙ ap (λ (os : List (Option ℕ)). take x.committed os) r.homes
       ∙ take_at (homes_of r.log) (homes_in r.pages) x.committed f
 
-  pub ends_here : ((ts : List (List Change)) (t : List Change) → ts ≡ r.log → t ≡ r.pages → Ends σ h p ts t) → HasReadAll σ h x
-  ends_here e = record {
+  pub ends_here : (ss : List ℕ) → ss ≡ each log_sector (min (p + 1) h.geometry.log)
+      → ((ts : List (List Change)) (t : List Change) → ts ≡ r.log → t ≡ r.pages → Ends σ h p ts t) → HasReadAll σ h ss x
+  ends_here ss row e = record {
     header = r.header;
     log = r.log;
-    reads = (p, (r.pages, r.reading, e r.log r.pages refl refl));
+    reads = (p, (r.pages, r.reading, e r.log r.pages refl refl, row));
     has = record { committed = r.committed; homes = committed_homes; transactions = cc (r.header, r.transactions) };
   }
 
-  -- a commit record that is not the one that may stand there
-  pub miscounted : (n k : ℕ) → p < h.geometry.log → IsEntryAt σ h p (Commit n k) → n ≢ p - x.committed → HasReadAll σ h x
-  miscounted n k l (most, f, g, e) ne = let s = read_so_far σ h p r.log r.pages r.reading in
-      ends_here (λ ts t z w. wrong_count n k f e (λ q. ne (omega (arith, ap length w, s.at, r.committed))))
+  -- before the log's end
+  pub ends_inside : p < h.geometry.log → ((ts : List (List Change)) (t : List Change) → ts ≡ r.log → t ≡ r.pages → Ends σ h p ts t)
+      → HasReadAll σ h (each log_sector (p + 1)) x
+  ends_inside l e = let next : p + 1 ≡ min (p + 1) h.geometry.log = omega arith in
+      ends_here (each log_sector (p + 1)) (ap (each log_sector) next) e
 
-  pub misnumbered : (n k : ℕ) → p < h.geometry.log → IsEntryAt σ h p (Commit n k) → k ≢ x.transactions + 1 → HasReadAll σ h x
+  -- a commit record that is not the one that may stand there
+  pub miscounted : (n k : ℕ) → p < h.geometry.log → IsEntryAt σ h p (Commit n k) → n ≢ p - x.committed → HasReadAll σ h (each log_sector (p + 1)) x
+  miscounted n k l (most, f, g, e) ne = let s = read_so_far σ h p r.log r.pages r.reading in
+      ends_inside l (λ ts t z w. wrong_count n k f e (λ q. ne (omega (arith, ap length w, s.at, r.committed))))
+
+  pub misnumbered : (n k : ℕ) → p < h.geometry.log → IsEntryAt σ h p (Commit n k) → k ≢ x.transactions + 1 → HasReadAll σ h (each log_sector (p + 1)) x
   misnumbered n k l (most, f, g, e) ne =
-      ends_here (λ ts t z w. wrong_number n k g e (λ q. ne (omega (arith, ap length z, r.transactions))))
+      ends_inside l (λ ts t z w. wrong_number n k g e (λ q. ne (omega (arith, ap length z, r.transactions))))
 
   -- the whole log is read
-  pub reads_all : p ≡ h.geometry.log → HasReadAll σ h x
-  reads_all e = ends_here (λ ts t z w. whole_log e)
+  pub reads_all : p ≡ h.geometry.log → HasReadAll σ h (each log_sector p) x
+  reads_all e = let whole : p ≡ min (p + 1) h.geometry.log = omega arith in
+      ends_here (each log_sector p) (ap (each log_sector) whole) (λ ts t z w. whole_log e)
+
+-- on a card of as many sectors as its header says, none of the log is lacking
+pub none_later : (n : ℕ) (σ : Image) (h : Header) → h.geometry.sectors ≡ n → ((t : ℕ) → InLog h.geometry t → ShowsLater h.epoch n σ t → ⊥) → NoneLater σ h
+none_later n σ h e none s i l = let room = h.geometry.room in none s i (omega arith, l)
 
 -- the log of an image whose header is h
-pub is_read : (n : ℕ) (σ : Image) (k h : Header) (x : LogRead) → k ≡ h → IsHeaderOf n σ h → NoneLater σ k → HasReadAll σ k x → IsReadOf n σ x
-is_read n σ k h x e a none y =
+pub is_read : (n : ℕ) (σ : Image) (k h : Header) (ss : List ℕ) (x : LogRead) → k ≡ h → IsHeaderOf n σ h → NoneLater σ k → HasReadAll σ k ss x → IsReadFrom n σ ss x
+is_read n σ k h ss x e a none y =
     let at : k ≡ x.header = sym y.header in
-    record {
-      log = y.log;
-      reads = record {
-        header = subst (λ (j : Header). IsHeaderOf n σ j) (sym e ∙ at) a;
-        none_later = subst (λ (j : Header). NoneLater σ j) at none;
-        log = read_log σ x.header y.log (subst (λ (j : Header). ReadsTo σ j y.log) at y.reads);
-      };
-      has = y.has;
-    }
+    let read = subst (λ (j : Header). ReadsInOrder σ j y.log ss) at y.reads in (
+      record {
+        log = y.log;
+        reads = record {
+          header = subst (λ (j : Header). IsHeaderOf n σ j) (sym e ∙ at) a;
+          none_later = subst (λ (j : Header). NoneLater σ j) at none;
+          log = read_log σ x.header y.log (read.0, (read.1.0, read.1.1, read.1.2));
+        };
+        has = y.has;
+      },
+      read,
+    )

@@ -46,15 +46,20 @@ pub record FirstLater (σ : Image) (h : Header) (s : ℕ) : Type 0 where
 abbrev pub log_sector : ℕ → ℕ
 log_sector i = 2 + i
 
--- The sectors ss of the log under h were read: up to s, which shows a later epoch and is the lowest that does, or all, and none does. If the
--- card has not as many sectors as h says, only which sectors were read is told.
+-- sector s is one of a card of n sectors, and shows an epoch above e
+abbrev pub ShowsLater : ℕ → ℕ → Image → ℕ → Type 0
+ShowsLater e n σ s = (s < n) × IsLater e (σ s)
+
+-- The sectors ss of the log under h were read: up to s, which shows a later epoch and is the lowest that does, or all, and none does. A
+-- card that has not as many sectors as h says lacks some of them.
 abbrev pub FindsLater : Header → List ℕ → ℕ → Image → ℕ → Type 0
 FindsLater h ss n σ s = InLog h.geometry s × (ss ≡ each log_sector (s - 1))
-    × (h.geometry.sectors ≡ n → FirstLater σ h s)
+    × ShowsLater h.epoch n σ s
+    × ((t : ℕ) → InLog h.geometry t → t < s → ¬ ShowsLater h.epoch n σ t)
 
 abbrev pub FindsNoneLater : Header → List ℕ → ℕ → Image → Type 0
 FindsNoneLater h ss n σ = (ss ≡ each log_sector h.geometry.log)
-    × (h.geometry.sectors ≡ n → NoneLater σ h)
+    × ((t : ℕ) → InLog h.geometry t → ¬ ShowsLater h.epoch n σ t)
 
 -- q tells of such a sector
 abbrev pub TellsLater : Header → List ℕ → ℕ → Image → ImageRefusal → Type 0

@@ -25,7 +25,8 @@ HasPage H s = (H.root ≤ s) × (s < H.root + length H.pages)
 abbrev pub free_page : Page
 free_page = record { class = Free; used = replicate 10 false; words = replicate 10 (Number 0) }
 
--- The page of sector s. Of a sector that is no page's it means nothing: who speaks of it says `HasPage` too, or of a geometry `IsPage`.
+-- The page of sector s. Of a sector that is no page's it means nothing: it is a free page then, which has no object and refers to none. Who
+-- speaks of it says `HasPage` too, or of a geometry `IsPage`.
 abbrev pub page_of : Heap → ℕ → Page
 page_of H s = slice_index_or H.pages (s - H.root) free_page
 

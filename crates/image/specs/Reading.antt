@@ -1,10 +1,12 @@
 -- The log read sector by sector, and each way in which reading ends.
 -- Assumes nothing.
-use Rattle.std.specs.Prelude.{◌≡◌, ◌≢◌, ℕ, zero, suc, ◌+◌, ◌^◌, ◌<◌, ◌≤◌, ◌⊎◌, ◌↔◌, List, [], ◌∷◌, ◌++◌, length}
+use Rattle.std.specs.Prelude.{◌≡◌, ◌≢◌, ℕ, zero, suc, ◌+◌, ◌^◌, ◌<◌, ◌≤◌, min, ◌⊎◌, ◌↔◌, List, [], ◌∷◌, ◌++◌, length}
 use Rattle.device.specs.Sector.{payload, torn, Image}
 use Rattle.layout.specs.declared.header.Header.{Header}
 use Rattle.layout.specs.Geometries.{IsPage}
 use Rattle.layout.specs.Records.{page_record_bytes, commit_record_bytes, IsNoRecord, most_records}
+use Rattle.device.specs.Calling.{each}
+use Rattle.image.specs.Headers.{log_sector}
 use Rattle.image.specs.Logs.{In, Change, next_number, IsLog}
 
 -- at position p stands a page record of the header's epoch and this position, which says c
@@ -50,6 +52,11 @@ pub data Ends (σ : Image) (h : Header) (p : ℕ) (ts : List (List Change)) (t :
 -- The log is read to its end with the transactions ts committed.
 abbrev pub ReadsTo : Image → Header → List (List Change) → Type 0
 ReadsTo σ h ts = (p : ℕ) × ((t : List Change) × Reading σ h p ts t × Ends σ h p ts t)
+
+-- The log is read so, and ss are the sectors that were read for it: up to that in which reading ends, or to the log's end.
+abbrev pub ReadsInOrder : Image → Header → List (List Change) → List ℕ → Type 0
+ReadsInOrder σ h ts ss = (p : ℕ) × ((t : List Change) × Reading σ h p ts t × Ends σ h p ts t
+    × (ss ≡ each log_sector (min (p + 1) h.geometry.log)))
 
 -- Reading sector by sector comes to the log's meaning, and to no other transactions.
 abbrev pub ReadsAsMeant : Type 0

@@ -11,7 +11,7 @@ use Rattle.image.specs.declared.log.LogRead.{LogRead}
 use Rattle.image.specs.declared.log.TheConstants.{LONGEST_LOG}
 use Rattle.image.specs.Headers.{IsHeaderIn}
 use Rattle.image.specs.Logs.{Change, span}
-use Rattle.image.specs.Reading.{Reading, ReadsTo}
+use Rattle.image.specs.Reading.{Reading, ReadsInOrder}
 use Rattle.layout.specs.declared.page.Page.{Page}
 use Rattle.layout.specs.Geometries.{root_of, IsPage}
 use Rattle.layout.specs.Homes.{home_bytes}
@@ -110,12 +110,16 @@ pub record HasRead (σ : Image) (h : Header) (p : ℕ) (x : LogRead) : Type 0 wh
   pub homes : take p x.homes ≡ homes_of log ++ homes_in pages
   pub transactions : x.transactions ≡ h.transactions + length log
 
--- x is what was read of the log to its end
-pub record HasReadAll (σ : Image) (h : Header) (x : LogRead) : Type 0 where
+-- x is what was read of the log to its end, from the sectors ss
+pub record HasReadAll (σ : Image) (h : Header) (ss : List ℕ) (x : LogRead) : Type 0 where
   pub header : x.header ≡ h
   pub log : List (List Change)
-  pub reads : ReadsTo σ h log
+  pub reads : ReadsInOrder σ h log ss
   pub has : IsLogOf log x
+
+-- x is what was read of the log of the image, first all of it and then, from the sectors ss, up to its end
+abbrev pub IsReadFrom : ℕ → Image → List ℕ → LogRead → Type 0
+IsReadFrom n σ ss x = (r : IsReadOf n σ x) × ReadsInOrder σ x.header r.log ss
 
 -- q tells that the page of sector s is not lawful: its home is torn and no committed record has the page, or else it is the page's own fault
 abbrev pub IsFaultOf : Image → List (List Change) → ℕ → ImageRefusal → Type 0
@@ -153,17 +157,22 @@ bodies_to x s = each (nth_body x) (s + 1 - root_of x.header.geometry)
 abbrev pub IsPageFault : ℕ → ImageRefusal → Type 0
 IsPageFault s q = (q ≡ Torn s) ⊎ (q ≡ Unlawful s)
 
--- the refusals that pages of a card so divided can get
-abbrev pub IsOfPages : Geometry → ImageRefusal → Type 0
-IsOfPages g (Torn s) = IsPage g s
-IsOfPages g (Unlawful s) = IsPage g s
-IsOfPages g (Dangling s j) = IsPage g s × (j < 10)
-IsOfPages g NoHeader = ⊥
-IsOfPages g (LaterEpoch s) = ⊥
-
 -- the pages' sectors ss were read up to one that has such a fault
 abbrev pub EndsAtFault : LogRead → List ℕ → ImageRefusal → Type 0
 EndsAtFault x ss q = (s : ℕ) × IsPage x.header.geometry s × IsPageFault s q × (ss ≡ bodies_to x s)
+
+-- What a judgement that refuses the image reads: the bodies up to that of the page that it tells of, in the first pass or in the second.
+-- That a reference has no object is found in the second; that a page which passed the first has a fault then, only on another image.
+abbrev pub EndsIn : LogRead → List ℕ → ℕ → Type 0
+EndsIn x ss s = (ss ≡ bodies_to x s) ⊎ (ss ≡ all_bodies x ++ bodies_to x s)
+
+abbrev pub JudgeEnds : LogRead → List ℕ → ImageRefusal → Type 0
+JudgeEnds x ss (Torn s) = IsPage x.header.geometry s × EndsIn x ss s
+JudgeEnds x ss (Unlawful s) = IsPage x.header.geometry s × EndsIn x ss s
+JudgeEnds x ss (Dangling s j) = IsPage x.header.geometry s × (j < 10)
+    × (ss ≡ all_bodies x ++ bodies_to x s)
+JudgeEnds x ss NoHeader = ⊥
+JudgeEnds x ss (LaterEpoch s) = ⊥
 
 -- they were read up to the page of which a data word is told, or all if none is
 abbrev pub EndsAtDangling : LogRead → List ℕ → Option (ℕ × ℕ) → Type 0

@@ -6,9 +6,9 @@ ghost use Rattle.layout.specs.declared.page.Page.{Page as APage};
 ghost use Rattle.layout.specs.Geometries.{IsPage};
 ghost use Rattle.image.specs.Heaps.{Heap, HasPage, is_free, objects_of, NoneDangles, FirstDangling};
 ghost use Rattle.image.specs.Looking.{Finds, FindsBy};
-ghost use Rattle.image.specs.Phases.{Just, OnceOrAgain, twice};
+ghost use Rattle.image.specs.Phases.{Just, twice};
 ghost use Rattle.image.specs.Images.{Judged, Shows};
-ghost use Rattle.image.specs.Stages.{IsReadOf, page_count, nth_body, all_bodies, log_division, EndsAtFault, EndsAtDangling, IsOfPages};
+ghost use Rattle.image.specs.Stages.{IsReadOf, page_count, nth_body, all_bodies, EndsAtFault, EndsAtDangling, JudgeEnds};
 ghost use Rattle.image.specs.Tallies.{IsTallyOfHeap};
 
 use crate::log::LogRead;
@@ -36,8 +36,7 @@ impl PagesJudged {
             (Just (twice (nth_body log) (page_count log)))
             (λ ss n σ x. (ss ≡ twice (nth_body log) (page_count log)) × (judged_log x ≡ log)
             × (IsReadOf n σ log → (H : Heap) × IsJudgedOf n σ H x))
-            (λ ss n σ q. OnceOrAgain (nth_body log) (page_count log) ss
-            × IsOfPages (log_division log) q × (IsReadOf n σ log → Judged n σ q)) result }
+            (λ ss n σ q. JudgeEnds log ss q × (IsReadOf n σ log → Judged n σ q)) result }
     {
         let tally = tally_pages(device, &log)?;
         if let Some((sector, word)) = first_dangling(device, &log, &tally)? {

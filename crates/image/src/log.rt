@@ -1,13 +1,13 @@
 //! The second stage of an opening: the log is read.
-ghost use Rattle.std.specs.Prelude.{◌≡◌, ℕ, ◌+◌, ◌<◌, ◌≤◌, [], ◌∷◌, IsTrue, ◌↔◌, MatchOption, slice_index_or, true, Some, None};
+ghost use Rattle.std.specs.Prelude.{◌≡◌, ℕ, ◌+◌, ◌<◌, ◌≤◌, List, [], ◌∷◌, ◌++◌, IsTrue, ◌↔◌, MatchOption, slice_index_or, true, Some, None};
 ghost use Rattle.std.specs.Bool.{MatchBool};
 ghost use Rattle.device.specs.Sector.{Image};
 ghost use Rattle.layout.specs.declared.header.Header.{Header as AHeader};
 ghost use Rattle.image.specs.declared.entry.Entry.TheVariants.{Commit};
-ghost use Rattle.image.specs.Headers.{IsHeaderOf, IsLater, log_sector, FindsNoneLater, FindsLater, TellsLater};
+ghost use Rattle.image.specs.Headers.{IsHeaderOf, ShowsLater, log_sector, FindsNoneLater, FindsLater, TellsLater};
 ghost use Rattle.device.specs.Calling.{each};
 ghost use Rattle.image.specs.Looking.{Tells, TellsBy, FindsBy};
-ghost use Rattle.image.specs.Phases.{Just, FirstOf, AllThenFirstOf, twice};
+ghost use Rattle.image.specs.Phases.{Just, SomeOf, twice};
 ghost use Rattle.image.specs.Entries.{IsEntryAt};
 
 use crate::entry::{Entry, entry_at};
@@ -37,15 +37,16 @@ pub struct LogRead {
 }
 
 impl LogRead {
-    ghost use Rattle.image.specs.Stages.{header_of, log_header, log_transactions, IsRecordFor, IsReadOf, HasRead, HasReadAll};
+    ghost use Rattle.image.specs.Stages.{header_of, log_header, log_transactions, IsRecordFor, IsReadFrom, HasRead, HasReadAll};
 
     /// Reads the log under the header that was read.
     pub fn read<D: Device>(device: &mut D, headers: HeadersRead) -> Result<LogRead, StageError>
         ensures { FindsBy ⟦<D as Device>⟧ device.old device.new
             (Just (twice log_sector (header_of headers).geometry.log))
-            (λ ss n σ x. AllThenFirstOf log_sector (header_of headers).geometry.log ss
-            × (log_header x ≡ header_of headers)
-            × (IsHeaderOf n σ (header_of headers) → IsReadOf n σ x))
+            (λ ss n σ x. (log_header x ≡ header_of headers) × ((us : List ℕ)
+            × SomeOf log_sector (header_of headers).geometry.log us
+            × (ss ≡ each log_sector (header_of headers).geometry.log ++ us)
+            × (IsHeaderOf n σ (header_of headers) → IsReadFrom n σ us x)))
             (TellsLater (header_of headers)) result }
     {
         let header = headers.into_header();
@@ -84,8 +85,8 @@ impl LogRead {
     fn scan<D: Device>(device: &mut D, header: Header) -> Result<LogRead, Off>
         ensures { TellsBy ⟦<D as Device>⟧ device.old device.new
             (Just (each log_sector header.geometry.log))
-            (λ ss n σ x. FirstOf log_sector header.geometry.log ss × (log_header x ≡ header)
-            × (header.geometry.sectors ≡ n → HasReadAll σ header x)) result }
+            (λ ss n σ x. SomeOf log_sector header.geometry.log ss × (log_header x ≡ header)
+            × (header.geometry.sectors ≡ n → HasReadAll σ header ss x)) result }
     {
         let mut log = LogRead::new(header);
         for position in 0..header.geometry.log {
@@ -116,7 +117,9 @@ impl LogRead {
         requires { position < 64 }
         ensures taken { (σ : Image) (h : AHeader) → position < h.geometry.log
             → HasRead σ h position self.old → IsEntryAt σ h position entry
-            → MatchBool result (HasRead σ h (position + 1) self.new) (HasReadAll σ h self.new) }
+            → MatchBool result
+            (HasRead σ h (position + 1) self.new)
+            (HasReadAll σ h (each log_sector (position + 1)) self.new) }
         ensures kept { log_header self.new ≡ log_header self.old }
     {
         match entry {
@@ -135,7 +138,9 @@ impl LogRead {
         requires { position < 64 }
         ensures taken { (σ : Image) (h : AHeader) → position < h.geometry.log
             → HasRead σ h position self.old → IsEntryAt σ h position (Commit pages number)
-            → MatchBool result (HasRead σ h (position + 1) self.new) (HasReadAll σ h self.new) }
+            → MatchBool result
+            (HasRead σ h (position + 1) self.new)
+            (HasReadAll σ h (each log_sector (position + 1)) self.new) }
         ensures kept { log_header self.new ≡ log_header self.old }
     {
         let pending = position.saturating_sub(self.committed);
@@ -185,7 +190,7 @@ fn first_later<D: Device>(device: &mut D, header: Header) -> Result<Option<u32>,
 // Whether a sector shows an epoch above this one.
 fn is_later_at<D: Device>(device: &mut D, epoch: u32, sector: u32) -> Result<bool, Off>
     ensures { Tells ⟦<D as Device>⟧ device.old device.new (Just (sector ∷ []))
-        (λ n σ b. sector < n → IsTrue b ↔ IsLater epoch (σ sector)) result }
+        (λ n σ b. IsTrue b ↔ ShowsLater epoch n σ sector) result }
 {
     let Some(bytes) = look(device, sector)? else {
         return Ok(false);

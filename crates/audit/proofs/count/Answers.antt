@@ -1,14 +1,14 @@
 -- The image that was judged is still shown, and what is counted is its heap's.
 -- Assumes nothing.
-use Rattle.std.proofs.Common.{◌≡◌, ℕ, ◌+◌, length, replicate, subst, sym, inl, inr}
+use Rattle.std.proofs.Common.{◌≡◌, ℕ, ◌+◌, length, replicate, subst, sym}
 use Rattle.std.specs.List.{All}
 use Rattle.device.proofs.Calling.{read_all}
 use Rattle.image.specs.Heaps.{Heap, CountsReached}
 use Rattle.image.specs.Images.{Judged}
 use Rattle.image.specs.Stages.{judged_log, IsJudgedOf}
-use Rattle.image.proofs.Lookings.{carried_on, looked_then, fails_as, fails_then, off_less}
+use Rattle.image.proofs.Lookings.{carried_on, looked_then, fails_as, fails_then}
 use Rattle.audit.specs.Checks.{wanted}
-use Rattle.audit.specs.Order.{IsBody, JudgeReads, CheckReads}
+use Rattle.audit.specs.Order.{IsBody, RefusalReads, CheckReads, walk}
 use Rattle.audit.proofs.Ordering.{walk_behind}
 use Rattle.audit.proofs.count.Goals as goal
 
@@ -16,8 +16,8 @@ pub returns-in_err-judged : goal.returns-in_err-judged
 returns-in_err-judged g c =
     let n = g.D.Device.count c.args.device.now in
     let σ = g.D.Device.current c.args.device.now in
-    fails_as g.D.Device _ (JudgeReads n σ) (CheckReads n σ) (λ ss n σ q. JudgeReads n σ ss × Judged n σ q) (λ ss n σ q. JudgeReads n σ ss × Judged n σ q) _ _ _ _ c.in_err-judged.ensures
-    (λ l. off_less g.D.Device (JudgeReads n σ) (CheckReads n σ) _ _ l (λ ts e. inl e)) (λ ts q f. f) c.from_residual.ensures.1
+    fails_as g.D.Device _ (CheckReads n σ) (CheckReads n σ) (λ ss n σ q. RefusalReads n σ q ss × Judged n σ q) (λ ss n σ q. RefusalReads n σ q ss × Judged n σ q)
+    _ _ _ _ c.in_err-judged.ensures (λ l. l) (λ ts q f. f) c.from_residual.ensures.1
 
 pub count_reachable-requires-clause-judged : goal.count_reachable-requires-clause-judged
 count_reachable-requires-clause-judged g c =
@@ -35,9 +35,9 @@ returns-in_err-reachable g c =
     let σ = g.D.Device.current c.args.device.now in
     let (on, (ss, ran, (whole, x))) = c.in_ok-judged.ensures in
     let y = c.in_ok-judged.judged in
-    fails_then g.D.Device _ ss (All (IsBody (judged_log y))) (CheckReads n σ) (λ ws n σ q. ⊥) (λ ss n σ q. JudgeReads n σ ss × Judged n σ q)
+    fails_then g.D.Device _ ss (All (IsBody (judged_log y))) (CheckReads n σ) (λ ws n σ q. ⊥) (λ ss n σ q. RefusalReads n σ q ss × Judged n σ q)
     _ _ _ _ _ ran c.in_err-reachable.ensures
-    (λ ws a. inr (judged_log y, (ws, walk_behind n σ (judged_log y) ss ws whole a))) (λ ws q f. absurd f) c.from_residual-in_err-reachable.ensures.1
+    (λ ws a. walk (judged_log y) ws (walk_behind n σ (judged_log y) ss ws whole a)) (λ ws q f. absurd f) c.from_residual-in_err-reachable.ensures.1
 
 pub returns : goal.returns
 returns g c =

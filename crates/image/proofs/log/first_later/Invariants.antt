@@ -2,13 +2,12 @@
 -- Assumes nothing.
 use Rattle.std.proofs.Common.{◌≡◌, ℕ, ◌-◌, ◌≤◌, ◌<◌, true}
 use Rattle.device.specs.Calling.{reads, each, Ran}
-use Rattle.image.specs.Headers.{IsLater, log_sector}
+use Rattle.image.specs.Headers.{ShowsLater, log_sector}
 use Rattle.image.proofs.log.first_later.Given as goal
 
 abbrev pub invariant-loop-sector : goal.invariant-loop-sector
 invariant-loop-sector g l = record {
   ran : Ran g.D.Device (reads (each log_sector (l.sector - 2))) l.fn.device l.device;
   on : 2 < l.sector → g.D.Device.on l.device ≡ true;
-  none : l.header.geometry.sectors ≡ g.D.Device.count l.fn.device → (t : ℕ) → 2 ≤ t → t < l.sector
-      → IsLater l.header.epoch (g.D.Device.current l.fn.device t) → ⊥;
+  none : (t : ℕ) → 2 ≤ t → t < l.sector → ShowsLater l.header.epoch (g.D.Device.count l.fn.device) (g.D.Device.current l.fn.device) t → ⊥;
 }

@@ -5,10 +5,10 @@ use Rattle.device.specs.Calling.{each}
 use Rattle.layout.specs.declared.header.Header.{Header}
 use Rattle.image.specs.declared.refusal.ImageRefusal.TheVariants.{LaterEpoch}
 use Rattle.image.specs.Headers.{log_sector, FindsLater, TellsLater}
-use Rattle.image.specs.Phases.{Just, FirstOf, twice}
+use Rattle.image.specs.Phases.{Just, SomeOf, twice}
 use Rattle.image.specs.Stages.{header_of, log_header, HasReadAll}
 use Rattle.image.proofs.Lookings.{looked_then, off_then, off_before, fails_off, refuses, both_lists}
-use Rattle.image.proofs.Taking.{is_read}
+use Rattle.image.proofs.Taking.{is_read, none_later}
 use Rattle.image.proofs.log.LogRead.read.Goals as goal
 
 pub returns-in_err-sector : goal.returns-in_err-sector
@@ -52,10 +52,15 @@ returns g c =
     let x = c.in_ok-scan.field-0 in
     let b = c.in_ok-scan.ensures in (
       b.0,
-      looked_then g.D.Device ss (λ ts n σ. FirstOf log_sector k.geometry.log ts × (log_header x ≡ k) × (k.geometry.sectors ≡ n → HasReadAll σ k x)) _ _ _ _ ran b.1
+      looked_then g.D.Device ss (λ ts n σ. SomeOf log_sector k.geometry.log ts × (log_header x ≡ k) × (k.geometry.sectors ≡ n → HasReadAll σ k ts x)) _ _ _ _ ran b.1
           (λ ts z. (
-            (ts, subst (λ (j : Header). FirstOf log_sector j.geometry.log ts) e z.0, both_lists (none.0 ∙ row) refl),
             z.1 ∙ e,
-            λ a. let f = ap (λ (j : Header). j.geometry.sectors) e ∙ a.valid.0.0 in is_read (g.D.Device.count m) (g.D.Device.current m) k _ _ e a (none.1 f) (z.2 f),
+            (
+              ts,
+              subst (λ (j : Header). SomeOf log_sector j.geometry.log ts) e z.0,
+              both_lists (none.0 ∙ row) refl,
+              λ a. let f = ap (λ (j : Header). j.geometry.sectors) e ∙ a.valid.0.0 in
+                  is_read (g.D.Device.count m) (g.D.Device.current m) k _ ts _ e a (none_later (g.D.Device.count m) (g.D.Device.current m) k f none.1) (z.2 f),
+            ),
           )),
     )

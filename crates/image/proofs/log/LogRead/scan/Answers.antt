@@ -44,7 +44,7 @@ returns-then-not-take_up g c =
         each log_sector (p + 1),
         ran_more g.D.Device log_sector p _ _ _ _ _ ss inv.ran ran row refl refl,
         (
-          (p + 1, omega arith, refl),
+          (p + 1, omega arith, omega arith, refl),
           c.if-not-take_up.ensures.kept ∙ inv.header,
           λ e. c.if-not-take_up.ensures.taken _ h (omega arith) (inv.read e) (t (omega arith)),
         ),
@@ -56,5 +56,5 @@ returns g c =
     let inv = c.loop-position.invariant in
     let l = c.args.header.geometry.least_log in (
       inv.on (omega arith),
-      (_, inv.ran, ((c.loop-position.position, omega arith, refl), inv.header, λ e. reads_all _ _ _ _ (inv.read e) (omega arith))),
+      (_, inv.ran, ((c.loop-position.position, omega arith, omega arith, refl), inv.header, λ e. reads_all _ _ _ _ (inv.read e) (omega arith))),
     )

@@ -1,2 +1,1 @@
 pub mod Lines
-mod Cards

@@ -2,3 +2,4 @@ pub mod Reports
 pub mod HeapTexts
 pub mod Cards
 pub mod Tellings
+pub mod Tables

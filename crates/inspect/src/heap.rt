@@ -3,12 +3,12 @@ ghost use Rattle.std.specs.Prelude.{Some};
 ghost use Rattle.image.specs.Refusals.{told};
 ghost use Rattle.inspect.specs.HeapTexts.{heap_text, heap_line, heap_sentence, refusal_line, refusal_sentence, values_text};
 
-use image::{Counts, Refusal};
+use image::{Counts, ImageRefusal};
 use std::fmt;
 
 /// What a card holds: the numbers of its heap, or the refusal that its image gets.
 #[derive(Clone, Copy, Debug)]
-pub struct HeapReport(pub Result<Counts, Refusal>);
+pub struct HeapReport(pub Result<Counts, ImageRefusal>);
 
 impl fmt::Display for HeapReport {
     ghost output = { λ report. Some (heap_text report.0) };
@@ -69,7 +69,7 @@ impl fmt::Display for HeapSentence {
 }
 
 #[derive(Clone, Copy, Debug)]
-struct RefusalLine(Refusal);
+struct RefusalLine(ImageRefusal);
 
 impl fmt::Display for RefusalLine {
     ghost output = { λ line. Some (refusal_line line.0) };
@@ -82,7 +82,7 @@ impl fmt::Display for RefusalLine {
 
 // The sector and the data word of a refusal, where it has them.
 #[derive(Clone, Copy, Debug)]
-struct Values(Refusal);
+struct Values(ImageRefusal);
 
 impl fmt::Display for Values {
     ghost output = { λ values. Some (values_text (told values.0).values) };
@@ -97,23 +97,22 @@ impl fmt::Display for Values {
 }
 
 #[derive(Clone, Copy, Debug)]
-struct RefusalSentence(Refusal);
+struct RefusalSentence(ImageRefusal);
 
 impl fmt::Display for RefusalSentence {
     ghost output = { λ line. Some (refusal_sentence line.0) };
 
     fn fmt<W: fmt::Write>(&self, f: &mut fmt::Formatter<W>) -> fmt::Result {
         let text = match self.0 {
-            Refusal::NoHeader => "The card holds no heap: it has no valid header.",
-            Refusal::LaterEpoch { .. } =>
+            ImageRefusal::NoHeader => "The card holds no heap: it has no valid header.",
+            ImageRefusal::LaterEpoch { .. } =>
                 "The card holds no heap: its log has a record of a later epoch than its header.",
-            Refusal::Torn { .. } =>
+            ImageRefusal::Torn { .. } =>
                 "The card holds no heap: a page cannot be read, and its log has no record of it.",
-            Refusal::Unlawful { .. } =>
+            ImageRefusal::Unlawful { .. } =>
                 "The card holds no heap: a page breaks the rules of the format.",
-            Refusal::Dangling { .. } =>
+            ImageRefusal::Dangling { .. } =>
                 "The card holds no heap: a data word refers to an object that is not there.",
-            _ => "The card could not be checked.",
         };
         write!(f, "{text}")
     }

@@ -10,7 +10,7 @@ use anyhow::{anyhow, bail};
 use std::process::ExitCode;
 use std::{env, fs, io};
 use survey::{Condition, ImageError, LONGEST, SECTORS};
-use told::{Told, told_of};
+use told::{Table, Told, told_of};
 
 // The image that is looked at where no other is named.
 const USUAL: &str = "heap.img";
@@ -29,8 +29,10 @@ fn read_image(rt: &HostRuntime, path: &str) -> anyhow::Result<Vec<u8>> {
 
 fn inspect(rt: &HostRuntime, path: &str) -> anyhow::Result<()> {
     let image = read_image(rt, path)?;
-    let mut table = [Condition::Torn; SECTORS];
-    let Told { sectors, heap } = told_of(image, &mut table)?;
+    let mut table = Table {
+        places: [Condition::Torn; SECTORS],
+    };
+    let Told { sectors, heap } = told_of(&mut table, image)?;
     println!(rt; "{sectors}")?;
     println!(rt; "{heap}")?;
     Ok(())

@@ -1,6 +1,6 @@
 //! What the inspector prints of a card: five lines.
 ghost use Rattle.std.specs.Prelude.{◌≡◌, Some};
-ghost use Rattle.survey.specs.Verdicts.{Judged};
+ghost use Rattle.survey.specs.Verdicts.{IsVerdictOn};
 ghost use Rattle.inspect.specs.Reports.{report_text};
 
 use std::fmt;
@@ -17,7 +17,7 @@ impl<'a> Report<'a> {
     /// The report on a card whose sectors are in these conditions.
     pub fn new(conditions: &'a [Condition]) -> Report<'a>
         ensures on { result.conditions.now ≡ conditions.now }
-        ensures verdict { Judged conditions.now result.verdict }
+        ensures verdict { IsVerdictOn conditions.now result.verdict }
     {
         let verdict = judge(conditions);
         Report {

@@ -48,5 +48,5 @@ module _ {D : Type 0} (g : Ghosts D) where
       → Stopped g (reads (sectors_from 0 (g.count d))) d f
   cut_short n xs ys d e f (Ok k) so below err told made = absurd (false≢true err)
   cut_short n xs ys d e f (Err a) so below err told made =
-      let off = (told.1 (subst (λ (i : ℕ). n < i) (sym so.count) below)).0 in
+      let off = (told.2 (subst (λ (i : ℕ). n < i) (sym so.count) below)).0 in
       cut_next g (λ (i : ℕ). 0 + i) n (g.count d) n d e f (sym (zero-add n)) below so.ran (inl (subst (λ (b : Fault). MakesOneRead g n (Err b) e f) off made))

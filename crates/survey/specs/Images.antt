@@ -8,9 +8,17 @@ use Rattle.survey.specs.declared.condition.ImageError.TheVariants.{TooLong, NotW
 use Rattle.survey.specs.Conditions.{Surveyed}
 use Rattle.survey.specs.Surveys.{SameFrom}
 
+-- memory m is a card image
+abbrev pub IsImage : List ℕ → Type 0
+IsImage m = (length m ≤ 65536) × (length m % 64 ≡ 0)
+
+-- memory m is no card image, and this is why
+abbrev pub IsNoImage : List ℕ → ImageError → Type 0
+IsNoImage m TooLong = 65536 < length m
+IsNoImage m NotWholeRows = (length m ≤ 65536) × (length m % 64 ≢ 0)
+
 -- memory m, and a table that holds xs before and ys after
 abbrev pub SurveysImage : List ℕ → List Condition → List Condition → Result ℕ ImageError → Type 0
 SurveysImage m xs ys (Ok n) = (n * 64 ≡ length m) × (n ≤ 1024)
     × Surveyed (held m) n ys × SameFrom n xs ys
-SurveysImage m xs ys (Err TooLong) = (65536 < length m) × (ys ≡ xs)
-SurveysImage m xs ys (Err NotWholeRows) = (length m ≤ 65536) × (length m % 64 ≢ 0) × (ys ≡ xs)
+SurveysImage m xs ys (Err e) = IsNoImage m e × (ys ≡ xs)

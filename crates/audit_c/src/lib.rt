@@ -44,11 +44,7 @@ pub extern "C" fn goarfleki_check(
 }
 
 // The check of a card image that is only read: a row image is made over a copy.
-fn check_copy(
-    image: &[u8],
-    marks: &mut [u8],
-    numbers: &mut [u16],
-) -> Result<Counts, CheckError>
+fn check_copy(image: &[u8], marks: &mut [u8], numbers: &mut [u16]) -> Result<Counts, CheckError>
     requires { length image.now % 64 ≡ 0 }
     ensures { ChecksRows image.now marks.old marks.new numbers.old numbers.new result }
 {
@@ -71,11 +67,7 @@ fn sectors_of(image: &[u8]) -> u32
 }
 
 // The check of more sectors than a card may have: no header is valid there.
-fn check_too_many(
-    image: &[u8],
-    marks: &mut [u8],
-    numbers: &mut [u16],
-) -> Result<Counts, CheckError>
+fn check_too_many(image: &[u8], marks: &mut [u8], numbers: &mut [u16]) -> Result<Counts, CheckError>
     requires whole { length image.now % 64 ≡ 0 }
     requires long { 65536 < length image.now }
     ensures { ChecksRows image.now marks.old marks.new numbers.old numbers.new result }

@@ -8,11 +8,11 @@ use Rattle.device.specs.Bytes.{content, payload_content}
 use Rattle.device.proofs.Lasting.{take_bytes}
 use Rattle.bench.specs.Rows.{readable, torn_row, is_readable, row_holds}
 
-holds_marked : (r : List ℕ) → is_readable r ≡ true → row_holds r ≡ content (take 60 r)
+pub holds_marked : (r : List ℕ) → is_readable r ≡ true → row_holds r ≡ content (take 60 r)
 unfolding row_holds
 holds_marked r e = cond-true (is_readable r) _ _ e
 
-holds_torn : (r : List ℕ) → is_readable r ≡ false → row_holds r ≡ torn
+pub holds_torn : (r : List ℕ) → is_readable r ≡ false → row_holds r ≡ torn
 unfolding row_holds
 holds_torn r e = cond-false (is_readable r) _ _ e
 

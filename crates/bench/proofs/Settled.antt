@@ -1,10 +1,10 @@
--- Settling one sector after another leaves in each what its number chooses.
+-- Settling the sector of one write after another leaves in each what its number chooses.
 -- Assumes nothing.
-use Rattle.std.proofs.Common.{◌≡◌, ℕ, zero, suc, ◌+◌, ◌*◌, ◌/◌, ◌<◌, ◌≤◌, min, Bool, true, false, cond, ◌&&◌, eqb, ltb, List, [], ◌∷◌, ◌++◌, map, length, get_or, take, drop, Some, None, Option, Ok, Err, sym, refl, ap, ◌∙◌, subst, inl, inr, arith}
+use Rattle.std.proofs.Common.{◌≡◌, ℕ, zero, suc, ◌+◌, ◌*◌, ◌/◌, ◌<◌, ◌≤◌, min, Bool, true, false, cond, ◌&&◌, ◌⊎◌, eqb, ltb, List, [], ◌∷◌, ◌++◌, map, length, get_or, take, drop, Some, None, Option, Ok, Err, sym, refl, ap, ◌∙◌, subst, inl, inr, arith}
 use Rattle.std.specs.List.{range_with_len, slice_get, filter}
 use Rattle.std.specs.Option.{is_some}
 use Rattle.std.proofs.lemmas.Bool.{cases_Bool, cases_eq, cases_lt, and_right, lt-ltb, le-ltb, cond-false}
-use Rattle.std.proofs.lemmas.List.{take-append-drop, drop-drop, get_or_past}
+use Rattle.std.proofs.lemmas.List.{take_more, take_all, take_at, length-take-le, take-append-drop, drop-drop, get_or_past, get_or_default}
 use Rattle.std.proofs.lemmas.List.FromFn.{length-map-range_with_len, get_or-map-range_with_len}
 use Rattle.device.specs.declared.pending.PendingWrite.{PendingWrite}
 use Rattle.device.specs.Faults.{Answer}
@@ -13,10 +13,12 @@ use Rattle.device.specs.Bytes.{content, payload_content}
 use Rattle.device.specs.Rules.{Settled}
 use Rattle.device.specs.Cuts.{IsFoundOf}
 use Rattle.device.specs.Memory.{PutsRow, row_count, row_in, with_row, only}
-use Rattle.device.specs.Waiting.{waiting_at, youngest, MayLeave, shown, may, with_waiting}
+use Rattle.device.specs.Queues.{At}
+use Rattle.device.specs.Waiting.{waiting_at, youngest, MayLeave, Absent, shown, may, with_waiting}
+use Rattle.device.proofs.Lists.{absent_append, absent_waiting}
 use Rattle.device.proofs.Lasting.{room, row_long, row_here, row_there, long_kept, held_here, held_there}
 use Rattle.bench.specs.Rows.{durable, row_holds, torn_row, readable, rows_mean}
-use Rattle.bench.specs.Settling.{choose, chosen_row, chosen, Settles, SettlesAt, SettlesToEach}
+use Rattle.bench.specs.Settling.{choose, chosen_row, chosen, Settles, SettlesAt, SettlesFor, SettlesToEach}
 use Rattle.bench.proofs.Marking.{readable_long, torn_long, holds_readable, holds_torn_row}
 use Rattle.bench.proofs.Choosing.{chooses_torn, chooses_whole, chooses_one, was_possible, number_of}
 
@@ -125,53 +127,65 @@ module _ (s : ℕ) (ws : List PendingWrite) (m : List ℕ) (here : s < row_count
       (takes_none readable (torn_row (row_in 61 m s)) (row_in 61 m s) (row_count 61 m) s ws here k j ne e (sym h))
       (takes_none content torn (durable m s) (row_count 61 m) s ws here k j ne e (sym h))
 
--- the sectors before sector i are settled, and the others are as they were
-pub record SettlesBefore (i : ℕ) (cs : List ℕ) (ws : List PendingWrite) (m m' : List ℕ) : Type 0 where
+-- What a number chooses, chosen again.
+again_one : {X : Type 0} (xs : List X) (r : X) (k : ℕ) → get_or (get_or (r ∷ xs) k r ∷ xs) k (get_or (r ∷ xs) k r) ≡ get_or (r ∷ xs) k r
+again_one xs r zero = refl
+again_one xs r (suc k) = elim (cases_lt k (length xs)) [
+  | inl h ↦ get_or_default xs k (get_or xs k r) r h
+  | inr h ↦ get_or_past xs k (get_or xs k r) h
+]
+
+again : {X : Type 0} (f : List ℕ → X) (t : X) (k : ℕ) (bs : List (List ℕ)) (r : X) → choose f t k bs (choose f t k bs r) ≡ choose f t k bs r
+again f t k bs r = elim (cases_eq k 9) [
+  | inl e ↦ elim (cases_lt 0 (length bs)) [
+    | inl h ↦ chooses_torn f t k bs _ e h ∙ sym (chooses_torn f t k bs r e h)
+    | inr h ↦ chooses_whole f t k bs _ e h
+  ]
+  | inr ne ↦ chooses_one f t k bs _ ne
+      ∙ ap (λ (x : _). get_or (x ∷ map f bs) k x) (chooses_one f t k bs r ne)
+      ∙ again_one (map f bs) r k
+      ∙ sym (chooses_one f t k bs r ne)
+]
+
+torn_again : (r : List ℕ) → length r ≡ 61 → torn_row (torn_row r) ≡ torn_row r
+torn_again r e = ap (λ (z : List ℕ). z ++ 1 ∷ []) (take_at (take 60 r) (1 ∷ []) 60 (length-take-le 60 r (omega arith)))
+
+again_row : (k : ℕ) (bs : List (List ℕ)) (r : List ℕ) → length r ≡ 61 → chosen_row k bs (chosen_row k bs r) ≡ chosen_row k bs r
+again_row k bs r l = elim (cases_eq k 9) [
+  | inl e ↦ elim (cases_lt 0 (length bs)) [
+    | inl h ↦ chooses_torn readable _ k bs _ e h ∙ ap torn_row (chooses_torn readable (torn_row r) k bs r e h) ∙ torn_again r l ∙ sym (chooses_torn readable (torn_row r) k bs r e h)
+    | inr h ↦ chooses_whole readable _ k bs _ e h
+  ]
+  | inr ne ↦ chooses_one readable _ k bs _ ne ∙ sym (chooses_one readable (torn_row r) k bs _ ne) ∙ again readable (torn_row r) k bs r
+]
+
+-- the sector of the k-th write is settled, if there are both
+pub settles_for : (k : ℕ) (cs : List ℕ) (ws : List PendingWrite) (m m' : List ℕ) (w : PendingWrite) → At ws k w
+    → (w.sector < row_count 61 m → SettlesAt (get_or cs w.sector 0) w.sector ws m m') → (row_count 61 m ≤ w.sector → m' ≡ m) → SettlesFor k cs ws m m'
+settles_for k cs ws m m' w at here past = record {
+  here = λ v h. subst (λ (u : PendingWrite). u.sector < row_count 61 m → SettlesAt (get_or cs u.sector 0) u.sector ws m m') (sym (at.1 w) ∙ h.1 w) here;
+  past = λ v h. subst (λ (u : PendingWrite). row_count 61 m ≤ u.sector → m' ≡ m) (sym (at.1 w) ∙ h.1 w) past;
+  none = λ h. let l = at.0 in absurd (omega arith);
+}
+
+-- a sector is settled; it is as it was
+abbrev pub IsSettled : List ℕ → List PendingWrite → List ℕ → List ℕ → ℕ → Type 0
+IsSettled cs ws m m' s = (row_in 61 m' s ≡ chosen_row (get_or cs s 0) (waiting_at (row_count 61 m) ws s) (row_in 61 m s))
+    × (durable m' s ≡ chosen (get_or cs s 0) (waiting_at (row_count 61 m) ws s) (durable m s))
+
+abbrev pub IsKept : List ℕ → List ℕ → ℕ → Type 0
+IsKept m m' s = (row_in 61 m' s ≡ row_in 61 m s) × (durable m' s ≡ durable m s)
+
+-- each sector is settled, or it is as it was and none of the first k writes is to it
+pub record SettlesFirst (k : ℕ) (cs : List ℕ) (ws : List PendingWrite) (m m' : List ℕ) : Type 0 where
   pub long : length m' ≡ length m
-  pub rows : (s : ℕ) → s < i → row_in 61 m' s ≡ chosen_row (get_or cs s 0) (waiting_at (row_count 61 m) ws s) (row_in 61 m s)
-  pub contents : (s : ℕ) → s < i → durable m' s ≡ chosen (get_or cs s 0) (waiting_at (row_count 61 m) ws s) (durable m s)
-  pub rest_rows : (s : ℕ) → i ≤ s → row_in 61 m' s ≡ row_in 61 m s
-  pub rest : (s : ℕ) → i ≤ s → durable m' s ≡ durable m s
+  pub each : (s : ℕ) → IsSettled cs ws m m' s ⊎ (Absent s (take k ws) × IsKept m m' s)
 
-module _ (i : ℕ) (cs : List ℕ) (ws : List PendingWrite) (m m₁ m₂ : List ℕ) (here : i < row_count 61 m) (g : SettlesBefore i cs ws m m₁) (one : SettlesAt (get_or cs i 0) i ws m₁ m₂) where
-  same_count : row_count 61 m₁ ≡ row_count 61 m
-  same_count = ap (λ (n : ℕ). min (n / 61) 4294967295) g.long
-
-  here₁ : i < row_count 61 m₁
-  here₁ = let e = same_count in omega arith
-
-  -- what is chosen is chosen of the memory as it was before
-  row : chosen_row (get_or cs i 0) (waiting_at (row_count 61 m₁) ws i) (row_in 61 m₁ i) ≡ chosen_row (get_or cs i 0) (waiting_at (row_count 61 m) ws i) (row_in 61 m i)
-  row = ap (λ (n : ℕ). chosen_row (get_or cs i 0) (waiting_at n ws i) (row_in 61 m₁ i)) same_count
-      ∙ ap (chosen_row (get_or cs i 0) (waiting_at (row_count 61 m) ws i)) (g.rest_rows i (omega arith))
-
-  content_here : durable m₂ i ≡ chosen (get_or cs i 0) (waiting_at (row_count 61 m) ws i) (durable m i)
-  content_here = one.content ∙ ap (λ (n : ℕ). chosen (get_or cs i 0) (waiting_at n ws i) (durable m₁ i)) same_count
-      ∙ ap (chosen (get_or cs i 0) (waiting_at (row_count 61 m) ws i)) (g.rest i (omega arith))
-
-  row_in_here : row_in 61 m₂ i ≡ chosen_row (get_or cs i 0) (waiting_at (row_count 61 m) ws i) (row_in 61 m i)
-  row_in_here = ap (λ (z : List ℕ). row_in 61 z i) one.memory ∙ row_here 61 m₁ i _ (room 61 m₁ i here₁) one.whole ∙ row
-
-  row_in_there : (s : ℕ) → (s ≡ i → ⊥) → row_in 61 m₂ s ≡ row_in 61 m₁ s
-  row_in_there s ne = ap (λ (z : List ℕ). row_in 61 z s) one.memory ∙ row_there 61 m₁ i _ (room 61 m₁ i here₁) one.whole s ne
-
-  durable_there : (s : ℕ) → (s ≡ i → ⊥) → durable m₂ s ≡ durable m₁ s
-  durable_there s ne = ap (λ (z : List ℕ). durable z s) one.memory ∙ held_there (λ _. row_holds) 61 m₁ i _ here₁ one.whole s ne
-
-  pub one_more_before : SettlesBefore (i + 1) cs ws m m₂
-  one_more_before = record {
-    long = ap length one.memory ∙ long_kept 61 m₁ i _ (room 61 m₁ i here₁) one.whole ∙ g.long;
-    rows = λ s h. elim (cases_eq s i) [
-      | inl e ↦ subst (λ (s : ℕ). row_in 61 m₂ s ≡ chosen_row (get_or cs s 0) (waiting_at (row_count 61 m) ws s) (row_in 61 m s)) (sym e) row_in_here
-      | inr ne ↦ row_in_there s ne ∙ g.rows s (omega arith)
-    ];
-    contents = λ s h. elim (cases_eq s i) [
-      | inl e ↦ subst (λ (s : ℕ). durable m₂ s ≡ chosen (get_or cs s 0) (waiting_at (row_count 61 m) ws s) (durable m s)) (sym e) content_here
-      | inr ne ↦ durable_there s ne ∙ g.contents s (omega arith)
-    ];
-    rest_rows = λ s h. row_in_there s (λ e. omega arith) ∙ g.rest_rows s (omega arith);
-    rest = λ s h. durable_there s (λ e. omega arith) ∙ g.rest s (omega arith);
-  }
+pub settles_none : (cs : List ℕ) (ws : List PendingWrite) (m : List ℕ) → SettlesFirst 0 cs ws m m
+settles_none cs ws m = record {
+  long = refl;
+  each = λ s. inr (tt, (refl, refl));
+}
 
 past_bare : (n s : ℕ) (ws : List PendingWrite) → n ≤ s → waiting_at n ws s ≡ []
 unfolding waiting_at
@@ -189,19 +203,123 @@ none f t k r = elim (cases_eq k 9) [
   | inr ne ↦ chooses_one f t k [] r ne ∙ only_one k r
 ]
 
--- every sector is settled
-pub all_settled : (i : ℕ) (cs : List ℕ) (ws : List PendingWrite) (m m' : List ℕ) → i ≡ row_count 61 m → SettlesBefore i cs ws m m' → Settles cs ws m m'
-all_settled i cs ws m m' e g = record {
+-- a sector for which nothing waits is settled as it is
+pub bare_settled : (cs : List ℕ) (ws : List PendingWrite) (m m' : List ℕ) (s : ℕ) → waiting_at (row_count 61 m) ws s ≡ [] → IsKept m m' s → IsSettled cs ws m m' s
+bare_settled cs ws m m' s e kept = (
+  kept.0 ∙ sym (ap (λ (z : List (List ℕ)). chosen_row (get_or cs s 0) z (row_in 61 m s)) e ∙ none readable (torn_row (row_in 61 m s)) (get_or cs s 0) (row_in 61 m s)),
+  kept.1 ∙ sym (ap (λ (z : List (List ℕ)). chosen (get_or cs s 0) z (durable m s)) e ∙ none content torn (get_or cs s 0) (durable m s)),
+)
+
+-- the sector of one more write is settled
+module _ (k : ℕ) (cs : List ℕ) (ws : List PendingWrite) (m m₁ m₂ : List ℕ) (w : PendingWrite) (at : At ws k w) (g : SettlesFirst k cs ws m m₁) where
+  same_count : row_count 61 m₁ ≡ row_count 61 m
+  same_count = ap (λ (n : ℕ). min (n / 61) 4294967295) g.long
+
+  one_more : take (k + 1) ws ≡ take k ws ++ w ∷ []
+  one_more = take_more ws k w at.0 ∙ ap (λ (v : PendingWrite). take k ws ++ v ∷ []) (at.1 w)
+
+  -- another sector stays
+  elsewhere : (s : ℕ) → (s ≡ w.sector → ⊥) → IsKept m₁ m₂ s → IsSettled cs ws m m₂ s ⊎ (Absent s (take (k + 1) ws) × IsKept m m₂ s)
+  elsewhere s ne kept = elim (g.each s) [
+    | inl x ↦ inl (kept.0 ∙ x.0, kept.1 ∙ x.1)
+    | inr x ↦ inr (
+      subst (Absent s) (sym one_more) (absent_append s (take k ws) (w ∷ []) x.0 ((λ e. ne (sym e)), tt)),
+      (kept.0 ∙ x.1.0, kept.1 ∙ x.1.1),
+    )
+  ]
+
+  -- nothing is done for a sector that is not there
+  passed_over : row_count 61 m ≤ w.sector → m₂ ≡ m₁ → (s : ℕ) → IsSettled cs ws m m₂ s ⊎ (Absent s (take (k + 1) ws) × IsKept m m₂ s)
+  passed_over past e s =
+      let kept : IsKept m₁ m₂ s = (ap (λ (z : List ℕ). row_in 61 z s) e, ap (λ (z : List ℕ). durable z s) e) in
+      elim (cases_eq s w.sector) [
+        | inr ne ↦ elsewhere s ne kept
+        | inl i ↦ elim (g.each s) [
+          | inl x ↦ inl (kept.0 ∙ x.0, kept.1 ∙ x.1)
+          | inr x ↦ inl (bare_settled cs ws m m₂ s (past_bare (row_count 61 m) s ws (omega arith)) (kept.0 ∙ x.1.0, kept.1 ∙ x.1.1))
+        ]
+      ]
+
+  module _ (here : w.sector < row_count 61 m) (one : SettlesAt (get_or cs w.sector 0) w.sector ws m₁ m₂) where
+    here₁ : w.sector < row_count 61 m₁
+    here₁ = let e = same_count in omega arith
+
+    long_row : length (row_in 61 m w.sector) ≡ 61
+    long_row = row_long 61 m w.sector (room 61 m w.sector here)
+
+    there : (s : ℕ) → (s ≡ w.sector → ⊥) → IsKept m₁ m₂ s
+    there s ne = (
+      ap (λ (z : List ℕ). row_in 61 z s) one.memory ∙ row_there 61 m₁ w.sector _ (room 61 m₁ w.sector here₁) one.whole s ne,
+      ap (λ (z : List ℕ). durable z s) one.memory ∙ held_there (λ _. row_holds) 61 m₁ w.sector _ here₁ one.whole s ne,
+    )
+
+    -- what the sector holds is chosen of what it held just before
+    row : row_in 61 m₂ w.sector ≡ chosen_row (get_or cs w.sector 0) (waiting_at (row_count 61 m) ws w.sector) (row_in 61 m₁ w.sector)
+    row = ap (λ (z : List ℕ). row_in 61 z w.sector) one.memory ∙ row_here 61 m₁ w.sector _ (room 61 m₁ w.sector here₁) one.whole
+        ∙ ap (λ (n : ℕ). chosen_row (get_or cs w.sector 0) (waiting_at n ws w.sector) (row_in 61 m₁ w.sector)) same_count
+
+    holds : durable m₂ w.sector ≡ chosen (get_or cs w.sector 0) (waiting_at (row_count 61 m) ws w.sector) (durable m₁ w.sector)
+    holds = one.content ∙ ap (λ (n : ℕ). chosen (get_or cs w.sector 0) (waiting_at n ws w.sector) (durable m₁ w.sector)) same_count
+
+    settled : IsSettled cs ws m m₂ w.sector
+    settled = elim (g.each w.sector) [
+      | inl x ↦ (
+        row ∙ ap (chosen_row (get_or cs w.sector 0) (waiting_at (row_count 61 m) ws w.sector)) x.0
+            ∙ again_row (get_or cs w.sector 0) (waiting_at (row_count 61 m) ws w.sector) (row_in 61 m w.sector) long_row,
+        holds ∙ ap (chosen (get_or cs w.sector 0) (waiting_at (row_count 61 m) ws w.sector)) x.1
+            ∙ again content torn (get_or cs w.sector 0) (waiting_at (row_count 61 m) ws w.sector) (durable m w.sector),
+      )
+      | inr x ↦ (
+        row ∙ ap (chosen_row (get_or cs w.sector 0) (waiting_at (row_count 61 m) ws w.sector)) x.1.0,
+        holds ∙ ap (chosen (get_or cs w.sector 0) (waiting_at (row_count 61 m) ws w.sector)) x.1.1,
+      )
+    ]
+
+    in_place : (s : ℕ) → IsSettled cs ws m m₂ s ⊎ (Absent s (take (k + 1) ws) × IsKept m m₂ s)
+    in_place s = elim (cases_eq s w.sector) [
+      | inl e ↦ inl (subst (IsSettled cs ws m m₂) (sym e) settled)
+      | inr ne ↦ elsewhere s ne (there s ne)
+    ]
+
+  settles_more : SettlesFor k cs ws m₁ m₂ → SettlesFirst (k + 1) cs ws m m₂
+  settles_more one = elim (cases_lt w.sector (row_count 61 m)) [
+    | inl here ↦
+        let here₁ : w.sector < row_count 61 m₁ = let e = same_count in omega arith in
+        let by = one.here w at here₁ in
+        record {
+          long = ap length by.memory ∙ long_kept 61 m₁ w.sector _ (room 61 m₁ w.sector here₁) by.whole ∙ g.long;
+          each = in_place here by;
+        }
+    | inr past ↦
+        let e = one.past w at (let e = same_count in omega arith) in
+        record {
+          long = ap length e ∙ g.long;
+          each = passed_over past e;
+        }
+  ]
+
+-- at each place before the last stands a write
+pub at_place : (ws : List PendingWrite) (k : ℕ) → k < length ws → (w : PendingWrite) × At ws k w
+at_place [] k h = absurd (omega arith)
+at_place (w ∷ ws) zero h = (w, (h, λ d. refl))
+at_place (w ∷ ws) (suc k) h = let p = at_place ws k (omega arith) in (p.0, (h, p.1.1))
+
+pub settles_next : (k : ℕ) (cs : List ℕ) (ws : List PendingWrite) (m m₁ m₂ : List ℕ) → k < length ws → SettlesFirst k cs ws m m₁ → SettlesFor k cs ws m₁ m₂ → SettlesFirst (k + 1) cs ws m m₂
+settles_next k cs ws m m₁ m₂ h g one = let p = at_place ws k h in settles_more k cs ws m m₁ m₂ p.0 p.1 g one
+
+-- all are settled
+pub settles_all : (k : ℕ) (cs : List ℕ) (ws : List PendingWrite) (m m' : List ℕ) → length ws ≤ k → SettlesFirst k cs ws m m' → Settles cs ws m m'
+settles_all k cs ws m m' all g = record {
   long = g.long;
-  rows = λ s. elim (cases_lt s i) [
-    | inl h ↦ g.rows s h
-    | inr h ↦ g.rest_rows s h ∙ sym (ap (λ (z : List (List ℕ)). chosen_row (get_or cs s 0) z (row_in 61 m s)) (past_bare (row_count 61 m) s ws (omega arith)) ∙ none readable (torn_row (row_in 61 m s)) (get_or cs s 0) (row_in 61 m s))
-  ];
-  contents = λ s. elim (cases_lt s i) [
-    | inl h ↦ g.contents s h
-    | inr h ↦ g.rest s h ∙ sym (ap (λ (z : List (List ℕ)). chosen (get_or cs s 0) z (durable m s)) (past_bare (row_count 61 m) s ws (omega arith)) ∙ none content torn (get_or cs s 0) (durable m s))
-  ];
+  rows = λ s. (settled s).0;
+  contents = λ s. (settled s).1;
 }
+  where
+    settled : (s : ℕ) → IsSettled cs ws m m' s
+    settled s = elim (g.each s) [
+      | inl x ↦ x
+      | inr x ↦ bare_settled cs ws m m' s (absent_waiting s ws (subst (Absent s) (take_all k ws all) x.0) (row_count 61 m)) x.1
+    ]
 
 -- where nothing waits, only what is durable can be left
 alone : {c d : Content} → MayLeave [] (λ (x : Content). x ≡ d) c → c ≡ d

@@ -1,10 +1,11 @@
 -- Settling stands for a power cut: a number for each sector chooses what is found there. 0 keeps the durable content, k takes the
 -- k-th oldest write that waits there, 9 tears the sector if one waits; any other number, and a missing one, is 0. Assumes nothing.
-use Rattle.std.specs.Prelude.{◌≡◌, ℕ, ◌<◌, cond, List, ◌∷◌, map, length, ◌==◌, nat_lt, slice_index, slice_index_or}
+use Rattle.std.specs.Prelude.{◌≡◌, ℕ, ◌<◌, ◌≤◌, cond, List, ◌∷◌, map, length, ◌==◌, nat_lt, slice_index, slice_index_or}
 use Rattle.device.specs.declared.pending.PendingWrite.{PendingWrite}
 use Rattle.device.specs.Sector.{Content, torn, Image, Found}
 use Rattle.device.specs.Bytes.{content}
 use Rattle.device.specs.Memory.{row_count, row_in, with_row, only}
+use Rattle.device.specs.Queues.{At}
 use Rattle.device.specs.Waiting.{waiting_at, may}
 use Rattle.bench.specs.Rows.{durable, readable, torn_row}
 
@@ -41,3 +42,10 @@ pub record SettlesAt (k : ℕ) (s : ℕ) (ws : List PendingWrite) (m m' : List �
       (chosen_row k (waiting_at (row_count 61 m) ws s) (row_in 61 m s))
   pub whole : length (chosen_row k (waiting_at (row_count 61 m) ws s) (row_in 61 m s)) ≡ 61
   pub content : durable m' s ≡ chosen k (waiting_at (row_count 61 m) ws s) (durable m s)
+
+-- what the numbers cs leave of the sector that the k-th of the writes is to, if there is such a write and such a sector; else memory stays
+pub record SettlesFor (k : ℕ) (cs : List ℕ) (ws : List PendingWrite) (m m' : List ℕ) : Type 0 where
+  pub here : (w : PendingWrite) → At ws k w → w.sector < row_count 61 m
+      → SettlesAt (slice_index cs w.sector) w.sector ws m m'
+  pub past : (w : PendingWrite) → At ws k w → row_count 61 m ≤ w.sector → m' ≡ m
+  pub none : length ws ≤ k → m' ≡ m

@@ -7,7 +7,7 @@ ghost use Rattle.device.specs.Memory.{row_count, row_in, with_row};
 ghost use Rattle.device.specs.Waiting.{waiting_at};
 ghost use Rattle.bench.specs.Rows.{durable, torn_row};
 ghost use Rattle.bench.specs.Benches.{SameMemory, benched, memory, memory_at, queued, slots};
-ghost use Rattle.bench.specs.Settling.{Settles, SettlesAt, SettlesToEach, chosen};
+ghost use Rattle.bench.specs.Settling.{Settles, SettlesAt, SettlesFor, SettlesToEach, chosen};
 
 use crate::bench::Bench;
 use crate::rows::{READABLE, TORN, marked};
@@ -40,11 +40,26 @@ impl Bench<'_> {
         ensures slots { slots self.new ≡ slots self.old }
         ensures same { SameMemory self.old self.new }
     {
-        // sectors are numbers here: there is no slice of them to go over
-        for sector in 0..self.rows.count() {
-            self.settle_sector(sector, number_for(numbers, sector));
+        // A sector for which nothing waits stays as it is, so at most eight are settled, however many there are.
+        for k in 0..self.pending.len() {
+            self.settle_for(k, numbers);
         }
         self.pending.clear();
+    }
+
+    // Settles the sector that the k-th oldest write, counted from 0, is to. It may be settled already: that changes nothing.
+    fn settle_for(&mut self, k: usize, numbers: &[u8])
+        ensures settled { SettlesFor k numbers.now (queued self.old)
+            (memory self.old) (memory self.new) }
+        ensures pending { self.new.pending ≡ self.old.pending }
+        ensures same { memory_at self.new ≡ memory_at self.old }
+    {
+        if let Some(write) = self.pending.get(k) {
+            let sector = write.sector;
+            if sector < self.rows.count() {
+                self.settle_sector(sector, number_for(numbers, sector));
+            }
+        }
     }
 
     // Leaves in a sector what the number chooses. Its write still waits.

@@ -82,6 +82,7 @@ impl<'a> Device for RowImage<'a> {
     }
 
     fn write(&mut self, sector: u32, bytes: &[u8; PAYLOAD]) -> Result<(), Fault> {
+        self.rows.get(sector)?; // before a checksum is made for a row that is not there
         self.rows.put(sector, &row_for(sector, bytes))
     }
 

@@ -13,10 +13,10 @@ pub fn how_many(conditions: &[Condition], wanted: Condition) -> usize
     ensures value { result ≡ count_of wanted conditions.now }
     ensures bound { result ≤ length conditions.now }
 {
-    conditions
-        .iter()
-        .filter(|condition| **condition == wanted)
-        .count()
+    // A fold: `filter` and `count` compile to a branch for each sector, and take twice as long.
+    conditions.iter().fold(0, |count: usize, condition| {
+        count.wrapping_add(usize::from(*condition == wanted)) // never past the sectors, so it does not wrap
+    })
 }
 
 /// How many sectors can be read.

@@ -1,6 +1,6 @@
 //! Settling a bench in every way, and what a bench is refused for.
 use crate::cards::Row::{self, Marked, Readable, Torn};
-use bench::{Bench, ROW, WAITING};
+use bench::{Bench, ROW, TEAR, WAITING};
 use device::{BLANK, Device, Fault, MemoryError, PAYLOAD, PendingWrite};
 use std::test::Fail;
 
@@ -82,12 +82,13 @@ fn every_choice_is_found(rt: HostRuntime) -> Result<(), Fail> {
         for (second, in_second) in SECOND {
             let rows = [in_first, in_second, OLD[2]];
             // no number tears the last sector, or finds a write there
-            let numbers = [first, second, first];
-            assert!(rt; leaves(OLD, &WRITES, &numbers, false, rows)?);
-            assert!(rt;
-                leaves(OLD, &WRITES, &numbers, true, rows)?,
-                "nothing waits any more"
-            );
+            for numbers in [[first, second, first], [first, second, TEAR]] {
+                assert!(rt; leaves(OLD, &WRITES, &numbers, false, rows)?);
+                assert!(rt;
+                    leaves(OLD, &WRITES, &numbers, true, rows)?,
+                    "nothing waits any more"
+                );
+            }
         }
     }
     Ok(())
